@@ -1,0 +1,5 @@
+pub mod PutLaws
+pub mod PartsLaws
+pub mod SaysLaws
+pub mod FoldLaws
+pub mod SearchLaws
