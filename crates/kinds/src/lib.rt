@@ -1,0 +1,66 @@
+// The types by value that the core speaks of. Nothing here knows how any of them stands in bytes.
+
+// A row over the whole sheet, 0 to 15, and a farm, 0 to 3: two kinds, so that a row can't index the farms.
+pub struct RowNo(pub u8);
+
+pub struct FarmNo(pub u8);
+
+// What is wrong with a header, in document 01's order.
+pub enum Fault {
+    Pattern,
+    UnknownType,
+    TooLong,
+    WrongLength,
+}
+
+// The verdict on a header that came by TCP.
+pub enum Verdict {
+    Passes,
+    Wrong(Fault),
+}
+
+// The verdict on a datagram; some are never answered, whatever is wrong with them.
+pub enum DatagramVerdict {
+    NotAnswered,
+    Passes,
+    Wrong(Fault),
+}
+
+// What an entry of the output sheet says. An enum holds no bytes: the one long payload of a call is lent beside its entries.
+pub enum Reply {
+    // Send 0000: the code.
+    Nack(u8),
+    // Send 0004 of the farm whose record is lent.
+    Identity,
+    // Send 0006: address, entity address, code.
+    Activation(u16, u16, u8),
+    // Send 0007.
+    AliveCheck,
+    // Send 4002: quota, open rows.
+    Status(u8, u8),
+    // Send 4004: the power mode.
+    PowerMode(u8),
+    // Send 8001: controller, tester; the user data are lent.
+    Message(u16, u16),
+    // Send 8002: target, source, code.
+    Ack(u16, u16, u8),
+    // Send 8003: target, source, code.
+    DiagnosticNack(u16, u16, u8),
+    // Close the row.
+    Close,
+    // Hand the payload that is lent on to its controller.
+    HandOn,
+}
+
+// An entry before it is bytes. The version is the row's (in the base always 03).
+pub struct Item {
+    pub row: RowNo,
+    pub version: u8,
+    pub reply: Reply,
+}
+
+// What a datagram gets.
+pub enum Answer {
+    Nothing,
+    With(Reply),
+}
