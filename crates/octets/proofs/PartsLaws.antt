@@ -110,3 +110,13 @@ parts-before b at bs f k a (suc n) h =
 -- what stands in a part
 pub getD-part : (b : List ℕ) (a n k : ℕ) → k < n → getD (part b a n) k 0 ≡ getD b (a + k) 0
 getD-part b a n k h = rw (getD-take, getD-drop)
+
+pub length-part : (s : List ℕ) (a n : ℕ) → a + n ≤ length s → length (part s a n) ≡ n
+length-part s a n h = length-take-le n (drop a s) (omega (arith, length-drop a s))
+
+pub part-short : (s : List ℕ) (a n : ℕ) → length (part s a n) ≤ n
+part-short s a n = omega (arith, length-take n (drop a s))
+
+-- a part between two places, as a range lends it
+pub part-between : (s : List ℕ) (a e n : ℕ) → e ≡ a + n → take (e - a) (drop a s) ≡ part s a n
+part-between s a e n h = let k : e - a ≡ n = omega arith in ap (λ (m : ℕ). take m (drop a s)) k
