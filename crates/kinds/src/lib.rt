@@ -26,6 +26,12 @@ pub enum DatagramVerdict {
     Wrong(Fault),
 }
 
+// What a routing activation request asks: "all after the type are ignored", so nothing else of it is kept.
+pub struct Request {
+    pub address: u16,
+    pub kind: u8,
+}
+
 // What an entry of the output sheet says. An enum holds no bytes: the one long payload of a call is lent beside its entries.
 pub enum Reply {
     // Send 0000: the code.

@@ -9,9 +9,13 @@ use native.Mathlib.Nat.{zero-add}
 use native.Mathlib.Omega.{arith}
 use lib.ListN.{length, getD, drop, drop-of-length-le}
 use lib.Seq.{drop-cons}
+use lib.Dec.{eqb}
+use borrow.Author.Tests.{eq-eqb, ne-eqb, eqb-true}
 use Rattle.octets.specs.declared.Found.the-variants.{At, Nothing}
-use Rattle.octets.specs.Choice.{pick}
-use Rattle.octets.specs.Search.{firstAt, countIf, some, all}
+use Rattle.octets.specs.Choice.{pick, both}
+use Rattle.octets.specs.Says.{Says}
+use Rattle.octets.specs.Search.{firstAt, countIf, some, all, sameList}
+use Rattle.octets.proofs.SaysLaws.{never}
 
 module _ {A : Type 0} where
   pub drop-next : (l : List A) (i : ℕ) (d : A) → i < length l → drop i l ≡ getD l i d ∷ drop (i + 1) l
@@ -71,3 +75,54 @@ module _ {A : Type 0} where
     pub all-end : all p (drop i l) ≡ true
     unfolding all
     all-end = rw (drop-none l i h)
+
+-- ---- two lists side by side
+
+module _ (l k : List ℕ) (i : ℕ) (h : i < length l) (same : length l ≡ length k) where
+  pub same-next : getD l i 0 ≡ getD k i 0 → sameList (drop i l) (drop i k) ≡ sameList (drop (i + 1) l) (drop (i + 1) k)
+  unfolding sameList
+  same-next e =
+      rw (drop-next l i 0 h, drop-next k i 0 (omega arith), eq-eqb (getD l i 0) (getD k i 0) e)
+
+  pub same-differ : (getD l i 0 ≡ getD k i 0 → ⊥) → sameList (drop i l) (drop i k) ≡ false
+  unfolding sameList
+  same-differ e =
+      rw (drop-next l i 0 h, drop-next k i 0 (omega arith), ne-eqb (getD l i 0) (getD k i 0) e)
+
+pub same-end : (l k : List ℕ) (i : ℕ) → length l ≤ i → length k ≤ i → sameList (drop i l) (drop i k) ≡ true
+unfolding sameList
+same-end l k i h g = rw (drop-none l i h, drop-none k i g)
+
+pub both-right : (a b : Bool) → both a b ≡ true → b ≡ true
+both-right true b e = e
+both-right false b e = absurd (never e)
+
+pub both-left : (a b : Bool) → both a b ≡ true → a ≡ true
+both-left true b e = refl
+both-left false b e = absurd (never e)
+
+-- the test is true exactly where the lists are equal
+pub same-right : (l k : List ℕ) → sameList l k ≡ true → l ≡ k
+unfolding sameList
+same-right [] [] e = refl
+same-right [] (y ∷ k) e = absurd (never e)
+same-right (x ∷ l) [] e = absurd (never e)
+same-right (x ∷ l) (y ∷ k) e =
+    let h : x ≡ y = eqb-true x y (both-left (eqb x y) (sameList l k) e) in
+    let t : l ≡ k = same-right l k (both-right (eqb x y) (sameList l k) e) in
+    cc
+
+pub same-all : (l : List ℕ) → sameList l l ≡ true
+unfolding sameList
+same-all [] = refl
+same-all (x ∷ l) = rw (eq-eqb x x refl) (same-all l)
+
+pub same-says : (l k : List ℕ) → Says (sameList l k) (l ≡ k)
+same-says l k = record { right = same-right l k; all = λ e. ap (sameList l) (sym e) ∙ same-all l }
+
+pub same-short : (l k : List ℕ) → (length l ≡ length k → ⊥) → sameList l k ≡ false
+same-short l k h = by (sameList l k) refl
+  where
+    by : (b : Bool) → sameList l k ≡ b → b ≡ false
+    by true e = absurd (h (ap length (same-right l k e)))
+    by false e = refl

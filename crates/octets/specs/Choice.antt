@@ -14,3 +14,8 @@ both false b = false
 abbrev pub either : Bool → Bool → Bool
 either true b = true
 either false b = b
+
+-- the first where the test fails, else the second: a list of rules, the first that is broken decides
+abbrev pub unless : {A : Type 0} → Bool → A → A → A
+unless true a b = b
+unless false a b = a

@@ -3,6 +3,7 @@
 use Prim.Native.Nat.{ℕ, suc, _+_}
 use mathlib.Core.Bool.{Bool, true, false}
 use mathlib.Core.List.{List, [], _∷_}
+use lib.Dec.{eqb}
 use Rattle.octets.specs.declared.Found.{Found}
 use Rattle.octets.specs.declared.Found.the-variants.{At, Nothing}
 use Rattle.octets.specs.Choice.{pick, both, either}
@@ -23,3 +24,10 @@ some p (x ∷ l) = either (p x) (some p l)
 unfoldable pub all : {A : Type 0} → (A → Bool) → List A → Bool
 all p [] = true
 all p (x ∷ l) = both (p x) (all p l)
+
+-- the two lists are the same, number by number
+unfoldable pub sameList : List ℕ → List ℕ → Bool
+sameList [] [] = true
+sameList [] (y ∷ k) = false
+sameList (x ∷ l) [] = false
+sameList (x ∷ l) (y ∷ k) = both (eqb x y) (sameList l k)

@@ -4,6 +4,7 @@ ghost use Prim.Native.Nat.{_+_, _*_, _≤_};
 ghost use lib.ListN.{length};
 ghost use Rattle.octets.specs.Numbers.{u16At, u32At, be16, be32};
 ghost use Rattle.octets.specs.Put.{putAt};
+ghost use Rattle.octets.specs.Search.{sameList};
 
 // What a search answers: the place of the first that fits, or that there is none.
 pub enum Found {
@@ -76,4 +77,21 @@ pub fn write32(out: &mut [u8], at: usize, x: u32)
         (x % 256) as u8,
     ];
     put(out, at, &b);
+}
+
+// The two hold the same bytes.
+pub fn same(a: &[u8], b: &[u8]) -> bool
+    ensures { λ r. ⌜ r ≡ sameList (now (a .entry)) (now (b .entry)) ⌝ }
+{
+    if a.len() != b.len() {
+        return false;
+    }
+    let mut i = 0;
+    while i < a.len() {
+        if a[i] != b[i] {
+            return false;
+        }
+        i += 1;
+    }
+    true
 }

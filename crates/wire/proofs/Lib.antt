@@ -1,0 +1,2 @@
+pub mod TypesLaws
+pub mod HeaderLaws
