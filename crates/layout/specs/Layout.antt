@@ -4,7 +4,7 @@ use Prim.Native.Nat.{ℕ, _-_}
 use mathlib.Core.List.{List, [], _∷_, _++_}
 use lib.ListN.{length}
 use Rattle.octets.specs.Numbers.{be16, be32}
-use Rattle.octets.specs.Parts.{part}
+use Rattle.layout.specs.FarmRecord.{entityIn, vinIn, eidIn, gidIn}
 
 -- "Eight bytes: version, inverse, type u16, payload length u32", then the payload
 abbrev pub framed : ℕ → ℕ → List ℕ → List ℕ
@@ -14,22 +14,9 @@ framed version kind payload = (version ∷ (255 - version) ∷ be16 kind) ++ be3
 abbrev pub nackBytes : ℕ → ℕ → List ℕ
 nackBytes version code = framed version 0x0000 (code ∷ [])
 
--- "Farm, 33 bytes: entity address u16, quota q (1 to 8), power mode (0 to 2), VIN 17, EID 6, GID 6."
-abbrev pub entityOf : List ℕ → List ℕ
-entityOf farm = part farm 0 2
-
-abbrev pub vinOf : List ℕ → List ℕ
-vinOf farm = part farm 4 17
-
-abbrev pub eidOf : List ℕ → List ℕ
-eidOf farm = part farm 21 6
-
-abbrev pub gidOf : List ℕ → List ℕ
-gidOf farm = part farm 27 6
-
 -- "answer 0004 with VIN, entity address, EID, GID, 00", of the farm with this record
 unfoldable pub identityBytes : ℕ → List ℕ → List ℕ
-identityBytes version farm = framed version 0x0004 (vinOf farm ++ entityOf farm ++ eidOf farm ++ gidOf farm ++ (0 ∷ []))
+identityBytes version farm = framed version 0x0004 (vinIn farm ++ entityIn farm ++ eidIn farm ++ gidIn farm ++ (0 ∷ []))
 
 -- "Response 0006: address, entity address, code, four zeros."
 abbrev pub activationBytes : ℕ → ℕ → ℕ → ℕ → List ℕ

@@ -15,6 +15,7 @@ use Rattle.octets.specs.declared.Found.the-variants.{At, Nothing}
 use Rattle.octets.specs.Choice.{pick, both}
 use Rattle.octets.specs.Says.{Says}
 use Rattle.octets.specs.Search.{firstAt, countIf, some, all, sameList}
+use Rattle.octets.proofs.ChoiceLaws.{both-left, both-right}
 use Rattle.octets.proofs.SaysLaws.{never}
 
 module _ {A : Type 0} where
@@ -92,14 +93,6 @@ module _ (l k : List ℕ) (i : ℕ) (h : i < length l) (same : length l ≡ leng
 pub same-end : (l k : List ℕ) (i : ℕ) → length l ≤ i → length k ≤ i → sameList (drop i l) (drop i k) ≡ true
 unfolding sameList
 same-end l k i h g = rw (drop-none l i h, drop-none k i g)
-
-pub both-right : (a b : Bool) → both a b ≡ true → b ≡ true
-both-right true b e = e
-both-right false b e = absurd (never e)
-
-pub both-left : (a b : Bool) → both a b ≡ true → a ≡ true
-both-left true b e = refl
-both-left false b e = absurd (never e)
 
 -- the test is true exactly where the lists are equal
 pub same-right : (l k : List ℕ) → sameList l k ≡ true → l ≡ k

@@ -8,7 +8,7 @@ use lib.Dec.{eqb, leb}
 use borrow.Author.Tests.{eqb-true, leb-true, le-leb}
 use Rattle.octets.specs.Choice.{both}
 use Rattle.octets.specs.Search.{some}
-use Rattle.octets.proofs.SearchLaws.{both-left, both-right}
+use Rattle.octets.proofs.ChoiceLaws.{both-left, both-right}
 use Rattle.kinds.specs.declared.Verdict.the-variants.{Passes}
 use Rattle.wire.specs.declared.header.Header.{Header}
 use Rattle.wire.specs.Types.{types, tcp, knownOn, lengthFits, orMore}
