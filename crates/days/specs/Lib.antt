@@ -1,0 +1,3 @@
+pub mod Day
+pub mod Headers
+pub mod Table
