@@ -5,6 +5,65 @@ pub struct RowNo(pub u8);
 
 pub struct FarmNo(pub u8);
 
+// Ticks of 10 ms.
+pub struct Clock {
+    pub ticks: u16,
+}
+
+// A routing activation request: "all after the type are ignored", so nothing else of it is kept.
+pub struct Request {
+    pub address: u16,
+    pub kind: u8,
+}
+
+// "A row is free, fresh with its age, waiting with its request, or active with its tester's address and idle count."
+pub enum RowState {
+    Free,
+    Fresh(Clock),
+    Waiting(Request),
+    Active(u16, Clock),
+}
+
+// "its place in the byte stream": so many header bytes in hand, or so many payload bytes read, or skipped.
+pub enum Place {
+    Header(u8),
+    Reading(u32),
+    Skipping(u32),
+}
+
+// A row is one TCP connection. An enum holds no array, so the header's bytes stand beside its place; those not in hand are 0.
+pub struct Row {
+    pub state: RowState,
+    pub place: Place,
+    pub head: [u8; 8],
+}
+
+// "three meters", each wrapping on purpose.
+pub struct Meters {
+    pub taken: u32,
+    pub finished: u32,
+    pub lost: u32,
+}
+
+// Whom an alive check asks: the row with this seat, or all active rows of the farm.
+pub enum Check {
+    One(u8),
+    All,
+}
+
+// What the rules say of a request: a code at once, or an alive check first.
+pub enum Decision {
+    Now(u8),
+    Ask(Check),
+}
+
+// What becomes of the head of a line: its check goes on, it has its answer, or its check has run out.
+pub enum HeadVerdict {
+    Pending,
+    Answer(u8),
+    RunOut(Check),
+}
+
 // What is wrong with a header, in document 01's order.
 pub enum Fault {
     Pattern,
@@ -24,12 +83,6 @@ pub enum DatagramVerdict {
     NotAnswered,
     Passes,
     Wrong(Fault),
-}
-
-// What a routing activation request asks: "all after the type are ignored", so nothing else of it is kept.
-pub struct Request {
-    pub address: u16,
-    pub kind: u8,
 }
 
 // What an entry of the output sheet says. An enum holds no bytes: the one long payload of a call is lent beside its entries.
