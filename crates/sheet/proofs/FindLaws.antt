@@ -1,0 +1,174 @@
+-- Laws of the lookup and of what it looks through: a section of the sheet as a list of testers or targets.
+-- Assumes nothing.
+use mathlib.Core.Path.{_≡_, refl, sym, ap, _∙_, subst}
+use mathlib.Core.Bool.{Bool, true, false}
+use mathlib.Core.List.{List, [], _∷_, map, List·Memᴰ, List·Memᴰ·head, List·Memᴰ·tail, List·Memᴰ·not-nil, List·Memᴰ·cases-cons}
+use mathlib.Core.Logic.{⊎-elim}
+use Prim.Native.Nat.{ℕ, zero, suc, _+_, _*_, _≤_, _<_}
+use native.Mathlib.Nat.{eq-or-lt-of-le}
+use native.Mathlib.Omega.{arith}
+use borrow.Author.Tests.{eq-eqb, ne-eqb, eqb-true, eqb-false}
+use lib.Dec.{eqb}
+use lib.ListN.{length, getD, drop, length-map, List·getD-map}
+use Rattle.octets.specs.Choice.{pick}
+use Rattle.octets.specs.Numbers.{u16At}
+use Rattle.octets.specs.Parts.{part, parts}
+use Rattle.octets.proofs.PartsLaws.{parts-length, parts-get, getD-part}
+use Rattle.octets.proofs.SearchLaws.{drop-next, drop-none}
+use Rattle.sheet.specs.declared.find.Known.{Known}
+use Rattle.sheet.specs.declared.find.Found.{Found}
+use Rattle.sheet.specs.declared.find.Found.the-variants.{Is, Nobody}
+use Rattle.sheet.specs.Sheet.{knownSize, knownFrom, knownsAt, farmNo, addressAt, farmOfAt, flagAt, testersOf, targetsOf, farmCount, testerFlag, targetFlag}
+use Rattle.sheet.specs.Rules.{GoodSection, GoodSheet}
+use Rattle.sheet.specs.Find.{lookup}
+use Rattle.sheet.proofs.Order.{le-or-lt}
+
+-- ---- the section's bytes and its list
+
+-- the four bytes at a place, read where they stand
+pub known-part : (s : List ℕ) (p : ℕ)
+    → knownFrom (part s p knownSize) ≡ record { address = u16At s p; farm = farmNo (getD s (p + 2) 0); flag = getD s (p + 3) 0 }
+known-part s p =
+    let z : p + 0 ≡ p = omega arith in
+    let a : getD (part s p knownSize) 0 0 ≡ getD s p 0 = getD-part s p knownSize 0 (omega arith) ∙ ap (λ (k : ℕ). getD s k 0) z in
+    rw (a, getD-part s p knownSize 1 (omega arith), getD-part s p knownSize 2 (omega arith), getD-part s p knownSize 3 (omega arith))
+
+module _ (s : List ℕ) (at n : ℕ) where
+  pub knowns-length : length (knownsAt s at n) ≡ n
+  knowns-length = length-map (parts knownSize at n s) knownFrom ∙ parts-length knownSize at n s
+
+  pub knowns-next : (i : ℕ) → i < n
+      → drop i (knownsAt s at n) ≡ knownFrom (part s (at + i * knownSize) knownSize) ∷ drop (i + 1) (knownsAt s at n)
+  knowns-next i h =
+      drop-next (knownsAt s at n) i (knownFrom []) (omega (arith, knowns-length))
+      ∙ ap (λ (k : Known). k ∷ drop (i + 1) (knownsAt s at n))
+      (List·getD-map knownFrom (parts knownSize at n s) i [] ∙ ap knownFrom (parts-get knownSize at n i s h))
+
+  -- ---- a step of the search: what is left of the list decides
+
+  module _ (x i : ℕ) (h : i < n) where
+    pub lookup-here : addressAt s at i ≡ x
+        → lookup x (drop i (knownsAt s at n)) ≡ Is (knownFrom (part s (at + i * knownSize) knownSize))
+    unfolding lookup
+    lookup-here e =
+        let p : ℕ = at + i * knownSize in
+        rw (knowns-next i h, eq-eqb (knownFrom (part s p knownSize) .address) x (ap (λ (k : Known). k .address) (known-part s p) ∙ e))
+
+    pub lookup-next : (addressAt s at i ≡ x → ⊥) → lookup x (drop i (knownsAt s at n)) ≡ lookup x (drop (i + 1) (knownsAt s at n))
+    unfolding lookup
+    lookup-next ne =
+        let p : ℕ = at + i * knownSize in
+        rw
+        (knowns-next i h,
+        ne-eqb (knownFrom (part s p knownSize) .address) x (λ e. ne (sym (ap (λ (k : Known). k .address) (known-part s p)) ∙ e)))
+
+  pub lookup-end : (x i : ℕ) → n ≤ i → lookup x (drop i (knownsAt s at n)) ≡ Nobody
+  unfolding lookup
+  lookup-end x i h = rw (drop-none (knownsAt s at n) i (omega (arith, knowns-length)))
+
+-- ---- what a lookup finds, in any list
+
+-- k is in l and has the address x
+pub record Finds (x : ℕ) (l : List Known) (k : Known) : Type 0 where
+  pub member : List·Memᴰ k l
+  pub hasAddress : k .address ≡ x
+
+-- nobody in l has the address x
+abbrev pub NobodyHas : ℕ → List Known → Type 0
+NobodyHas x l = (k : Known) → List·Memᴰ k l → k .address ≡ x → ⊥
+
+found-by : (b : Bool) (x : ℕ) (y k : Known) (l : List Known) → eqb (y .address) x ≡ b → pick b (Is y) (lookup x l) ≡ Is k
+    → (lookup x l ≡ Is k → Finds x l k) → Finds x (y ∷ l) k
+found-by true x y k l e f below =
+    let z : k ≡ y = cc in record { member = List·Memᴰ·head z; hasAddress = ap (λ (m : Known). m .address) z ∙ eqb-true (y .address) x e }
+found-by false x y k l e f below = let t = below f in record { member = List·Memᴰ·tail (t .member); hasAddress = t .hasAddress }
+
+pub lookup-finds : (x : ℕ) (l : List Known) (k : Known) → lookup x l ≡ Is k → Finds x l k
+unfolding lookup
+lookup-finds x [] k e = absurd (let z : _≡_ {A = ℕ} 0 1 = cc in omega arith)
+lookup-finds x (y ∷ l) k e = found-by (eqb (y .address) x) x y k l refl e (lookup-finds x l k)
+
+nobody-by : (b : Bool) (x : ℕ) (y : Known) (l : List Known) → eqb (y .address) x ≡ b → pick b (Is y) (lookup x l) ≡ Nobody
+    → (lookup x l ≡ Nobody → NobodyHas x l) → NobodyHas x (y ∷ l)
+nobody-by true x y l e f below k m a = let z : _≡_ {A = ℕ} 0 1 = cc in omega arith
+nobody-by false x y l e f below k m a =
+    ⊎-elim
+    (λ (z : k ≡ y). eqb-false (y .address) x e (sym (ap (λ (w : Known). w .address) z) ∙ a))
+    (λ (t : List·Memᴰ k l). below f k t a)
+    (List·Memᴰ·cases-cons m)
+
+-- Nobody exactly where nobody has the address
+pub lookup-nobody : (x : ℕ) (l : List Known) → lookup x l ≡ Nobody → NobodyHas x l
+unfolding lookup
+lookup-nobody x [] e = λ k m a. List·Memᴰ·not-nil m
+lookup-nobody x (y ∷ l) e = nobody-by (eqb (y .address) x) x y l refl e (lookup-nobody x l)
+
+pub nobody-lookup : (x : ℕ) (l : List Known) → NobodyHas x l → lookup x l ≡ Nobody
+unfolding lookup
+nobody-lookup x [] h = refl
+nobody-lookup x (y ∷ l) h =
+    rw (ne-eqb (y .address) x (h y (List·Memᴰ·head refl)), nobody-lookup x l (λ k m. h k (List·Memᴰ·tail m)))
+
+-- ---- what the members of a good section are
+
+-- k is the i-th
+pub record Stands (s : List ℕ) (at n : ℕ) (k : Known) : Type 0 where
+  pub i : ℕ
+  pub within : i < n
+  pub same : k ≡ knownFrom (part s (at + i * knownSize) knownSize)
+
+pub stands : (s : List ℕ) (at n : ℕ) (k : Known) → List·Memᴰ k (knownsAt s at n) → Stands s at n k
+unfolding parts
+stands s at zero k m = absurd (List·Memᴰ·not-nil m)
+stands s at (suc n) k m =
+    ⊎-elim
+    (λ (e : k ≡ knownFrom (part s at knownSize)).
+      let z : at ≡ at + 0 * knownSize = omega arith in
+      record { i = 0; within = omega arith; same = e ∙ ap (λ (p : ℕ). knownFrom (part s p knownSize)) z })
+    (λ (t : List·Memᴰ k (knownsAt s (at + knownSize) n)).
+      let u = stands s (at + knownSize) n k t in
+      let z : at + knownSize + u .i * knownSize ≡ at + suc (u .i) * knownSize = omega arith in
+      record { i = suc (u .i); within = omega arith; same = u .same ∙ ap (λ (p : ℕ). knownFrom (part s p knownSize)) z })
+    (List·Memᴰ·cases-cons m)
+
+pub record GoodMember (k : Known) (farms most : ℕ) : Type 0 where
+  pub addressNotZero : 0 < k .address
+  pub farmExists : k .farm .0 < farms
+  pub flagAtMost : k .flag ≤ most
+
+module _ (s : List ℕ) (at n farms most : ℕ) (g : GoodSection s at n farms most) where
+  pub member-good : (k : Known) → List·Memᴰ k (knownsAt s at n) → GoodMember k farms most
+  member-good k m =
+      let t = stands s at n k m in
+      let e = t .same ∙ known-part s (at + t .i * knownSize) in
+      let o = g .eachKnown (t .i) (t .within) in
+      record {
+        addressNotZero = omega (arith, ap (λ (w : Known). w .address) e, o .addressNotZero);
+        farmExists = omega (arith, ap (λ (w : Known). w .farm .0) e, o .farmExists);
+        flagAtMost = omega (arith, ap (λ (w : Known). w .flag) e, o .flagAtMost);
+      }
+
+  -- an address belongs to one of them at most
+  pub member-only : (k l : Known) → List·Memᴰ k (knownsAt s at n) → List·Memᴰ l (knownsAt s at n) → k .address ≡ l .address → k ≡ l
+  member-only k l m o e =
+      let t = stands s at n k m in
+      let u = stands s at n l o in
+      let a : k .address ≡ addressAt s at (t .i) = ap (λ (w : Known). w .address) (t .same ∙ known-part s (at + t .i * knownSize)) in
+      let b : l .address ≡ addressAt s at (u .i) = ap (λ (w : Known). w .address) (u .same ∙ known-part s (at + u .i * knownSize)) in
+      ⊎-elim
+      (λ (le : t .i ≤ u .i).
+        ⊎-elim
+        (λ (h : t .i ≡ u .i). t .same ∙ ap (λ (j : ℕ). knownFrom (part s (at + j * knownSize) knownSize)) h ∙ sym (u .same))
+        (λ (h : t .i < u .i). absurd (omega (arith, g .addressesAscend (t .i) (u .i) h (u .within))))
+        (eq-or-lt-of-le le))
+      (λ (h : u .i < t .i). absurd (omega (arith, g .addressesAscend (u .i) (t .i) h (t .within))))
+      (le-or-lt (t .i) (u .i))
+
+  -- so a lookup of a member's address finds the member
+  found-again : (k : Known) → List·Memᴰ k (knownsAt s at n) → (r : Found) → lookup (k .address) (knownsAt s at n) ≡ r → r ≡ Is k
+  found-again k m (Is l) e =
+      let f = lookup-finds (k .address) (knownsAt s at n) l e in ap Is (member-only l k (f .member) m (f .hasAddress))
+  found-again k m Nobody e = absurd (lookup-nobody (k .address) (knownsAt s at n) e k m refl)
+
+  pub lookup-member : (k : Known) → List·Memᴰ k (knownsAt s at n) → lookup (k .address) (knownsAt s at n) ≡ Is k
+  lookup-member k m = found-again k m (lookup (k .address) (knownsAt s at n)) refl

@@ -1,0 +1,4 @@
+pub mod Order
+pub mod RulesLaws
+pub mod FindLaws
+pub mod RowsLaws

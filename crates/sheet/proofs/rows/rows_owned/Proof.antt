@@ -1,0 +1,33 @@
+use native.Mathlib.Omega.{arith}
+use borrow.Author.Needs.{needs}
+use Rattle.sheet.proofs.rows.rows_owned.Statement.{statement}
+use Rattle.sheet.proofs.rows.rows_owned.Tie as tie
+use Rattle.sheet.proofs.rows.rows_owned.Reads as reads
+use Rattle.sheet.proofs.rows.rows_owned.Lts as lts
+use Rattle.octets.proofs.wide.Reads as wide-reads
+
+mul-p : tie.Need-mul-p
+mul-p c = search needs
+
+add-p : tie.Need-add-p
+add-p c = search needs
+
+add-wide : tie.Need-add-wide
+add-wide c = search needs
+
+shared-slice-read-wide : tie.Need-shared-slice-read-wide
+shared-slice-read-wide c = search needs
+
+wide-requires : tie.Need-wide-requires
+wide-requires c κs = search needs
+
+add-result : tie.Need-add-result
+add-result c = omega (arith, c .wide .ensures, c .before .shared-slice-known2 .given (12 + c .before .before .before .args .i * 33 + 2))
+
+returns : tie.Need-returns
+returns c = search needs
+
+pub rows-owned-spec : {M : Type 1} → statement M
+rows-owned-spec =
+    tie.close
+    (tie.spec mul-p add-p add-wide shared-slice-read-wide wide-requires add-result returns)
