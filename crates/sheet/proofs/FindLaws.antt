@@ -66,6 +66,10 @@ module _ (s : List ℕ) (at n : ℕ) where
   unfolding lookup
   lookup-end x i h = rw (drop-none (knownsAt s at n) i (omega (arith, knowns-length)))
 
+-- a lookup in the section that was read is the lookup in the sheet's own
+pub lookup-same : (x : ℕ) (s : List ℕ) {at at′ n n′ : ℕ} → at ≡ at′ → n ≡ n′ → lookup x (knownsAt s at n) ≡ lookup x (knownsAt s at′ n′)
+lookup-same x s {at} {at′} {n} {n′} ea en = ap (λ (k : ℕ). lookup x (knownsAt s k n)) ea ∙ ap (λ (k : ℕ). lookup x (knownsAt s at′ k)) en
+
 -- ---- what a lookup finds, in any list
 
 -- k is in l and has the address x

@@ -33,6 +33,9 @@ module _ (s : List ℕ) where
   pub rows-few : GoodSheet s → rowsIn s ≤ mostRows
   rows-few g = g .farms .rowsAtMost
 
+  pub first-few : (f : ℕ) → GoodSheet s → f ≤ farmCount s → firstRow s f ≤ mostRows
+  first-few f g h = omega (arith, rows-mono f (farmCount s) h, rows-few g)
+
   -- ---- a step of the search for the owner
 
   pub owner-here : (n f r : ℕ) → r < rowsOwned s f → ownerFrom s (suc n) f r ≡ Seat (farmNo f) r

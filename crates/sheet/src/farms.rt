@@ -5,15 +5,9 @@ ghost use lib.Dec.{ltb};
 ghost use lib.ListN.{length};
 ghost use Rattle.sheet.specs.Sheet.{headSize, farmCount, entityOf, quotaOf, modeOf, farmRecord};
 ghost use Rattle.sheet.specs.Rules.{GoodSheet};
+use crate::head::farm_count;
 use crate::{FARM_SIZE, HEAD_SIZE};
 use kinds::FarmNo;
-
-pub fn farm_count(s: &[u8]) -> usize
-    requires { ⌜ headSize ≤ length (now s) ⌝ }
-    ensures { λ r. ⌜ r ≡ farmCount (now (s .entry)) ⌝ }
-{
-    octets::read16(s, 0) as usize
-}
 
 // Refusal 5 is where this says no.
 pub fn has_farm(s: &[u8], f: FarmNo) -> bool

@@ -6,7 +6,8 @@ ghost use Rattle.octets.specs.Parts.{part};
 ghost use Rattle.sheet.specs.Sheet.{knownSize, knownFrom, knownsAt, testersOf, targetsOf};
 ghost use Rattle.sheet.specs.Rules.{GoodSheet};
 ghost use Rattle.sheet.specs.Find.{lookup};
-use crate::{FARM_SIZE, HEAD_SIZE, KNOWN_SIZE};
+use crate::head::{target_count, targets_at, tester_count, testers_at};
+use crate::KNOWN_SIZE;
 use kinds::FarmNo;
 
 // A tester or a target. The flag is a target's reachable; a tester's is 0.
@@ -54,19 +55,12 @@ pub fn find_tester(s: &[u8], address: u16) -> Found
     requires { ⌜ GoodSheet (now s) ⌝ }
     ensures { λ r. ⌜ r ≡ lookup address (testersOf (now (s .entry))) ⌝ }
 {
-    let farms = octets::read16(s, 0) as usize;
-    let testers = octets::read16(s, 2) as usize;
-    let a = HEAD_SIZE + farms * FARM_SIZE;
-    lookup_in(s, a, testers, address)
+    lookup_in(s, testers_at(s), tester_count(s), address)
 }
 
 pub fn find_target(s: &[u8], address: u16) -> Found
     requires { ⌜ GoodSheet (now s) ⌝ }
     ensures { λ r. ⌜ r ≡ lookup address (targetsOf (now (s .entry))) ⌝ }
 {
-    let farms = octets::read16(s, 0) as usize;
-    let testers = octets::read16(s, 2) as usize;
-    let targets = octets::read16(s, 4) as usize;
-    let b = HEAD_SIZE + farms * FARM_SIZE + testers * KNOWN_SIZE;
-    lookup_in(s, b, targets, address)
+    lookup_in(s, targets_at(s), target_count(s), address)
 }

@@ -2,6 +2,7 @@
 // Document 01's rules stand in specs/; here is only how they are tested and read.
 pub mod farms;
 pub mod find;
+pub mod head;
 pub mod rows;
 pub mod rules;
 

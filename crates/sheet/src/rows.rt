@@ -5,6 +5,7 @@ ghost use lib.ListN.{length};
 ghost use Rattle.sheet.specs.Sheet.{headSize, farmSize, mostRows, farmCount};
 ghost use Rattle.sheet.specs.Rules.{GoodSheet};
 ghost use Rattle.sheet.specs.Rows.{firstRow, rowsOwned, rowsIn, ownerOf};
+use crate::head::farm_count;
 use crate::{FARM_SIZE, HEAD_SIZE};
 use kinds::{FarmNo, RowNo};
 
@@ -42,15 +43,15 @@ pub fn first_row(s: &[u8], f: FarmNo) -> RowNo
     ensures { λ r. ⌜ r .0 ≡ firstRow (now (s .entry)) (f .0) ⌝ }
 {
     let i = f.0 as usize;
-    let n = rows_before(s, i);
-    RowNo(n as u8)
+    let n = rows_before(s, i) as u8;
+    RowNo(n)
 }
 
 pub fn all_rows(s: &[u8]) -> usize
     requires { ⌜ GoodSheet (now s) ⌝ }
     ensures { λ r. ⌜ r ≡ rowsIn (now (s .entry)) ⌝ }
 {
-    let n = octets::read16(s, 0) as usize;
+    let n = farm_count(s);
     rows_before(s, n)
 }
 
@@ -58,13 +59,15 @@ pub fn owner_of(s: &[u8], row: RowNo) -> Owner
     requires { ⌜ GoodSheet (now s) ⌝ }
     ensures { λ r. ⌜ r ≡ ownerOf (now (s .entry)) (row .0) ⌝ }
 {
-    let n = octets::read16(s, 0) as usize;
+    let n = farm_count(s);
     let mut left = row.0 as usize;
     let mut i: usize = 0;
     while i < n {
         let own = rows_owned(s, i);
         if left < own {
-            return Owner::Seat(FarmNo(i as u8), left as u8);
+            let farm = i as u8;
+            let seat = left as u8;
+            return Owner::Seat(FarmNo(farm), seat);
         }
         left = left - own;
         i += 1;

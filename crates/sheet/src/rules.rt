@@ -5,6 +5,7 @@ ghost use lib.ListN.{length};
 ghost use Rattle.octets.specs.Says.{Says};
 ghost use Rattle.sheet.specs.Sheet.{headSize, farmSize, knownSize};
 ghost use Rattle.sheet.specs.Rules.{GoodHead, GoodFarms, GoodSection, GoodSheet};
+use crate::head::{farm_count, target_count, targets_at, tester_count, testers_at};
 use crate::{FARM_SIZE, HEAD_SIZE, KNOWN_SIZE};
 
 const MOST_FARMS: usize = 4;
@@ -124,18 +125,14 @@ pub fn sheet_ok(s: &[u8]) -> bool
     if !head_ok(s) {
         return false;
     }
-    let farms = octets::read16(s, 0) as usize;
+    let farms = farm_count(s);
     if !farms_ok(s, farms) {
         return false;
     }
-    let testers = octets::read16(s, 2) as usize;
-    let a = HEAD_SIZE + farms * FARM_SIZE;
-    if !section_ok(s, a, testers, farms, TESTER_FLAG) {
+    if !section_ok(s, testers_at(s), tester_count(s), farms, TESTER_FLAG) {
         return false;
     }
-    let targets = octets::read16(s, 4) as usize;
-    let b = a + testers * KNOWN_SIZE;
-    if !section_ok(s, b, targets, farms, TARGET_FLAG) {
+    if !section_ok(s, targets_at(s), target_count(s), farms, TARGET_FLAG) {
         return false;
     }
     true

@@ -1,3 +1,5 @@
+use Prim.Native.Nat.{_+_, _*_}
+use Rattle.sheet.specs.Sheet.{farmAt}
 use native.Mathlib.Omega.{arith}
 use borrow.Author.Needs.{needs}
 use Rattle.sheet.proofs.rows.rows_owned.Statement.{statement}
@@ -22,7 +24,7 @@ wide-requires : tie.Need-wide-requires
 wide-requires c κs = search needs
 
 add-result : tie.Need-add-result
-add-result c = omega (arith, c .wide .ensures, c .before .shared-slice-known2 .given (12 + c .before .before .before .args .i * 33 + 2))
+add-result c = omega (arith, c .wide .ensures, c .before .shared-slice-known2 .given (farmAt (c .before .before .before .args .i) + 2))
 
 returns : tie.Need-returns
 returns c = search needs
