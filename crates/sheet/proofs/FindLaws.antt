@@ -4,21 +4,21 @@ use mathlib.Core.Path.{_≡_, refl, sym, ap, _∙_, subst}
 use mathlib.Core.Bool.{Bool, true, false}
 use mathlib.Core.List.{List, [], _∷_, map, List·Memᴰ, List·Memᴰ·head, List·Memᴰ·tail, List·Memᴰ·not-nil, List·Memᴰ·cases-cons}
 use mathlib.Core.Logic.{⊎-elim}
-use Prim.Native.Nat.{ℕ, zero, suc, _+_, _*_, _≤_, _<_}
+use Prim.Native.Nat.{ℕ, zero, suc, _+_, _*_, _-_, _≤_, _<_}
 use native.Mathlib.Nat.{eq-or-lt-of-le}
 use native.Mathlib.Omega.{arith}
 use borrow.Author.Tests.{eq-eqb, ne-eqb, eqb-true, eqb-false}
 use lib.Dec.{eqb}
-use lib.ListN.{length, getD, drop, length-map, List·getD-map}
+use lib.ListN.{length, getD, length-map}
 use Rattle.octets.specs.Choice.{pick}
 use Rattle.octets.specs.Numbers.{u16At}
 use Rattle.octets.specs.Parts.{part, parts}
-use Rattle.octets.proofs.PartsLaws.{parts-length, parts-get, getD-part}
-use Rattle.octets.proofs.SearchLaws.{drop-next, drop-none}
+use Rattle.octets.proofs.PartsLaws.{parts-length, getD-part}
 use Rattle.sheet.specs.declared.find.Known.{Known}
 use Rattle.sheet.specs.declared.find.Found.{Found}
 use Rattle.sheet.specs.declared.find.Found.the-variants.{Is, Nobody}
-use Rattle.sheet.specs.Sheet.{knownSize, knownFrom, knownsAt, farmNo, addressAt, farmOfAt, flagAt, testersOf, targetsOf, farmCount, testerFlag, targetFlag}
+use Rattle.sheet.specs.Sheet.{knownSize, knownFrom, knownsAt, farmNo, addressAt}
+use Rattle.sheet.specs.Sheet.{testersOf, targetsOf, farmCount, testerCount, targetCount, testersAt, targetsAt, testerFlag, targetFlag}
 use Rattle.sheet.specs.Rules.{GoodSection, GoodSheet}
 use Rattle.sheet.specs.Find.{lookup}
 use Rattle.sheet.proofs.Order.{le-or-lt}
@@ -33,38 +33,29 @@ known-part s p =
     let a : getD (part s p knownSize) 0 0 ≡ getD s p 0 = getD-part s p knownSize 0 (omega arith) ∙ ap (λ (k : ℕ). getD s k 0) z in
     rw (a, getD-part s p knownSize 1 (omega arith), getD-part s p knownSize 2 (omega arith), getD-part s p knownSize 3 (omega arith))
 
-module _ (s : List ℕ) (at n : ℕ) where
-  pub knowns-length : length (knownsAt s at n) ≡ n
-  knowns-length = length-map (parts knownSize at n s) knownFrom ∙ parts-length knownSize at n s
+pub knowns-length : (s : List ℕ) (at n : ℕ) → length (knownsAt s at n) ≡ n
+knowns-length s at n = length-map (parts knownSize at n s) knownFrom ∙ parts-length knownSize at n s
 
-  pub knowns-next : (i : ℕ) → i < n
-      → drop i (knownsAt s at n) ≡ knownFrom (part s (at + i * knownSize) knownSize) ∷ drop (i + 1) (knownsAt s at n)
-  knowns-next i h =
-      drop-next (knownsAt s at n) i (knownFrom []) (omega (arith, knowns-length))
-      ∙ ap (λ (k : Known). k ∷ drop (i + 1) (knownsAt s at n))
-      (List·getD-map knownFrom (parts knownSize at n s) i [] ∙ ap knownFrom (parts-get knownSize at n i s h))
+-- ---- a step of the search: the four bytes at p are looked at, and n are left with them
 
-  -- ---- a step of the search: what is left of the list decides
+pub lookup-here : (x : ℕ) (s : List ℕ) (p n : ℕ) → 0 < n → u16At s p ≡ x → lookup x (knownsAt s p n) ≡ Is (knownFrom (part s p knownSize))
+unfolding lookup parts
+lookup-here x s p zero h e = absurd (omega arith)
+lookup-here x s p (suc n) h e = rw (eq-eqb (knownFrom (part s p knownSize) .address) x (ap (λ (k : Known). k .address) (known-part s p) ∙ e))
 
-  module _ (x i : ℕ) (h : i < n) where
-    pub lookup-here : addressAt s at i ≡ x
-        → lookup x (drop i (knownsAt s at n)) ≡ Is (knownFrom (part s (at + i * knownSize) knownSize))
-    unfolding lookup
-    lookup-here e =
-        let p : ℕ = at + i * knownSize in
-        rw (knowns-next i h, eq-eqb (knownFrom (part s p knownSize) .address) x (ap (λ (k : Known). k .address) (known-part s p) ∙ e))
+pub lookup-next : (x : ℕ) (s : List ℕ) (p n : ℕ) → 0 < n → (u16At s p ≡ x → ⊥)
+    → lookup x (knownsAt s p n) ≡ lookup x (knownsAt s (p + knownSize) (n - 1))
+unfolding lookup parts
+lookup-next x s p zero h ne = absurd (omega arith)
+lookup-next x s p (suc n) h ne =
+    let z : n ≡ suc n - 1 = omega arith in
+    rw (ne-eqb (knownFrom (part s p knownSize) .address) x (λ e. ne (sym (ap (λ (k : Known). k .address) (known-part s p)) ∙ e)))
+    (ap (λ (m : ℕ). lookup x (knownsAt s (p + knownSize) m)) z)
 
-    pub lookup-next : (addressAt s at i ≡ x → ⊥) → lookup x (drop i (knownsAt s at n)) ≡ lookup x (drop (i + 1) (knownsAt s at n))
-    unfolding lookup
-    lookup-next ne =
-        let p : ℕ = at + i * knownSize in
-        rw
-        (knowns-next i h,
-        ne-eqb (knownFrom (part s p knownSize) .address) x (λ e. ne (sym (ap (λ (k : Known). k .address) (known-part s p)) ∙ e)))
-
-  pub lookup-end : (x i : ℕ) → n ≤ i → lookup x (drop i (knownsAt s at n)) ≡ Nobody
-  unfolding lookup
-  lookup-end x i h = rw (drop-none (knownsAt s at n) i (omega (arith, knowns-length)))
+pub lookup-end : (x : ℕ) (s : List ℕ) (p n : ℕ) → n ≤ 0 → lookup x (knownsAt s p n) ≡ Nobody
+unfolding lookup parts
+lookup-end x s p zero h = refl
+lookup-end x s p (suc n) h = absurd (omega arith)
 
 -- a lookup in the section that was read is the lookup in the sheet's own
 pub lookup-same : (x : ℕ) (s : List ℕ) {at at′ n n′ : ℕ} → at ≡ at′ → n ≡ n′ → lookup x (knownsAt s at n) ≡ lookup x (knownsAt s at′ n′)
@@ -176,3 +167,25 @@ module _ (s : List ℕ) (at n farms most : ℕ) (g : GoodSection s at n farms mo
 
   pub lookup-member : (k : Known) → List·Memᴰ k (knownsAt s at n) → lookup (k .address) (knownsAt s at n) ≡ Is k
   lookup-member k m = found-again k m (lookup (k .address) (knownsAt s at n)) refl
+
+-- ---- the sheet's own two sections
+
+module _ (s : List ℕ) (g : GoodSheet s) where
+  pub tester-good : (k : Known) → List·Memᴰ k (testersOf s) → GoodMember k (farmCount s) testerFlag
+  tester-good = member-good s (testersAt s) (testerCount s) (farmCount s) testerFlag (g .testers)
+
+  pub target-good : (k : Known) → List·Memᴰ k (targetsOf s) → GoodMember k (farmCount s) targetFlag
+  target-good = member-good s (targetsAt s) (targetCount s) (farmCount s) targetFlag (g .targets)
+
+  -- one tester at most has an address, and a lookup finds it
+  pub tester-only : (k l : Known) → List·Memᴰ k (testersOf s) → List·Memᴰ l (testersOf s) → k .address ≡ l .address → k ≡ l
+  tester-only = member-only s (testersAt s) (testerCount s) (farmCount s) testerFlag (g .testers)
+
+  pub target-only : (k l : Known) → List·Memᴰ k (targetsOf s) → List·Memᴰ l (targetsOf s) → k .address ≡ l .address → k ≡ l
+  target-only = member-only s (targetsAt s) (targetCount s) (farmCount s) targetFlag (g .targets)
+
+  pub lookup-tester : (k : Known) → List·Memᴰ k (testersOf s) → lookup (k .address) (testersOf s) ≡ Is k
+  lookup-tester = lookup-member s (testersAt s) (testerCount s) (farmCount s) testerFlag (g .testers)
+
+  pub lookup-target : (k : Known) → List·Memᴰ k (targetsOf s) → lookup (k .address) (targetsOf s) ≡ Is k
+  lookup-target = lookup-member s (targetsAt s) (targetCount s) (farmCount s) targetFlag (g .targets)

@@ -2,3 +2,4 @@ pub mod Order
 pub mod RulesLaws
 pub mod FindLaws
 pub mod RowsLaws
+pub mod Example

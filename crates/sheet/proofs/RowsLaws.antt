@@ -10,7 +10,7 @@ use borrow.Author.Tests.{lt-ltb, le-ltb}
 use Rattle.sheet.proofs.Order.{le-or-lt}
 use Rattle.kinds.specs.declared.FarmNo.{FarmNo}
 use Rattle.sheet.specs.declared.rows.Owner.the-variants.{Seat, Nobody}
-use Rattle.sheet.specs.Sheet.{farmCount, farmNo, mostRows}
+use Rattle.sheet.specs.Sheet.{farmCount, farmNo, mostQuota, mostRows}
 use Rattle.sheet.specs.Rules.{GoodSheet}
 use Rattle.sheet.specs.Rows.{rowsOwned, firstRow, rowsIn, ownerFrom, ownerOf}
 
@@ -35,6 +35,13 @@ module _ (s : List ℕ) where
 
   pub first-few : (f : ℕ) → GoodSheet s → f ≤ farmCount s → firstRow s f ≤ mostRows
   first-few f g h = omega (arith, rows-mono f (farmCount s) h, rows-few g)
+
+  -- a farm has two rows at least, and nine at most
+  pub owned-some : (f : ℕ) → GoodSheet s → f < farmCount s → 2 ≤ rowsOwned s f
+  owned-some f g h = omega (arith, g .farms .eachFarm f h .quotaAtLeast)
+
+  pub owned-few : (f : ℕ) → GoodSheet s → f < farmCount s → rowsOwned s f ≤ mostQuota + 1
+  owned-few f g h = omega (arith, g .farms .eachFarm f h .quotaAtMost)
 
   -- ---- a step of the search for the owner
 

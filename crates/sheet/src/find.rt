@@ -39,13 +39,14 @@ fn lookup_in(s: &[u8], at: usize, n: usize, address: u16) -> Found
     requires { ⌜ at + n * knownSize ≤ length (now s) ⌝ }
     ensures { λ r. ⌜ r ≡ lookup address (knownsAt (now (s .entry)) at n) ⌝ }
 {
-    let mut i: usize = 0;
-    while i < n {
-        let p = at + i * KNOWN_SIZE;
+    let mut p = at;
+    let mut left = n;
+    while 0 < left {
         if octets::read16(s, p) == address {
             return Found::Is(known_at(s, p));
         }
-        i += 1;
+        p += KNOWN_SIZE;
+        left -= 1;
     }
     Found::Nobody
 }

@@ -1,10 +1,10 @@
 use mathlib.Core.Path.{_≡_, sym, ap, _∙_, refl}
-use Prim.Native.Nat.{_-_, _≤_}
+use Prim.Native.Nat.{_+_, _*_, _≤_}
 use native.Mathlib.Omega.{arith}
 use denote.Ref.{now}
-use lib.ListN.{drop}
+use lib.ListN.{length}
 use Rattle.sheet.specs.declared.find.Found.the-variants.{Is}
-use Rattle.sheet.specs.Sheet.{knownsAt}
+use Rattle.sheet.specs.Sheet.{knownSize, knownsAt}
 use Rattle.sheet.specs.Find.{lookup}
 use Rattle.sheet.proofs.FindLaws.{lookup-here, lookup-next, lookup-end}
 use Rattle.sheet.proofs.find.lookup_in.Statement.{statement}
@@ -15,19 +15,13 @@ use Rattle.octets.proofs.read16.Reads as read16-reads
 use Rattle.sheet.proofs.find.known_at.Reads as known-at-reads
 
 abbrev Inv-loop : tie.InvT-loop
-Inv-loop s at n address i₀ i = (i ≤ n) × (lookup address (knownsAt s at n) ≡ lookup address (drop i (knownsAt s at n)))
+Inv-loop s at n address p₀ left₀ p left = (p + left * knownSize ≤ length s) × (lookup address (knownsAt s at n) ≡ lookup address (knownsAt s p left))
 
 abbrev μ-loop : tie.MeasureT-loop
-μ-loop s at n address i₀ i = n - i
+μ-loop s at n address p₀ left₀ p left = left
 
 loop-holds : tie.Need-loop-holds Inv-loop μ-loop
 loop-holds c = (omega arith, refl)
-
-mul-p : tie.Need-mul-p Inv-loop μ-loop
-mul-p c = omega arith
-
-add-p : tie.Need-add-p Inv-loop μ-loop
-add-p c = omega arith
 
 read16-requires : tie.Need-read16-requires Inv-loop μ-loop
 read16-requires c κs = omega arith
@@ -40,10 +34,13 @@ returns c =
     let a = c .before .before .before .before .before .before .args in
     let l = c .before .before .before .before .loop in
     ap Is (c .known-at .ensures)
-    ∙ sym (l .inv .1 ∙ lookup-here (now (a .s)) (a .at) (a .n) (a .address) (l .i) (omega arith) (sym (c .before .before .read16 .ensures) ∙ c .before .if1 .taken))
+    ∙ sym (l .inv .1 ∙ lookup-here (a .address) (now (a .s)) (l .p) (l .left) (omega arith) (sym (c .before .before .read16 .ensures) ∙ c .before .if1 .taken))
 
-add-i : tie.Need-add-i Inv-loop μ-loop
-add-i c = omega arith
+add-p : tie.Need-add-p Inv-loop μ-loop
+add-p c = omega arith
+
+sub-left : tie.Need-sub-left Inv-loop μ-loop
+sub-left c = omega arith
 
 loop-less : tie.Need-loop-less Inv-loop μ-loop
 loop-less c = omega arith
@@ -54,14 +51,14 @@ loop-again c =
     let l = c .before .before .before .loop in
     (
       omega arith,
-      l .inv .1 ∙ lookup-next (now (a .s)) (a .at) (a .n) (a .address) (l .i) (omega arith) (λ e. c .if1 .left (c .before .read16 .ensures ∙ e)),
+      l .inv .1 ∙ lookup-next (a .address) (now (a .s)) (l .p) (l .left) (omega arith) (λ e. c .if1 .left (c .before .read16 .ensures ∙ e)),
     )
 
 returns-2 : tie.Need-returns-2 Inv-loop μ-loop
 returns-2 c =
     let a = c .before .before .before .args in
     let l = c .before .loop in
-    sym (l .inv .1 ∙ lookup-end (now (a .s)) (a .at) (a .n) (a .address) (l .i) (omega arith))
+    sym (l .inv .1 ∙ lookup-end (a .address) (now (a .s)) (l .p) (l .left) (omega arith))
 
 pub lookup-in-spec : {M : Type 1} → statement M
 lookup-in-spec =
@@ -70,12 +67,11 @@ lookup-in-spec =
     Inv-loop
     μ-loop
     loop-holds
-    mul-p
-    add-p
     read16-requires
     known-at-requires
     returns
-    add-i
+    add-p
+    sub-left
     loop-less
     loop-again
     returns-2)
