@@ -2,7 +2,7 @@
 -- tester and target are found, and row 3 is the farm's last seat. So what the functions of this crate require is met by some sheet.
 -- Assumes nothing.
 use mathlib.Core.Path.{_≡_, refl}
-use mathlib.Core.List.{List, [], _∷_, _++_, replicate}
+use mathlib.Core.List.{List, [], _∷_}
 use Prim.Native.Nat.{ℕ, zero, suc, _<_}
 use native.Mathlib.Omega.{arith}
 use Rattle.sheet.specs.declared.find.Found.the-variants.{Is, Nobody}
@@ -38,16 +38,16 @@ pub rig-good : GoodSheet rig
 rig-good =
     record {
       head =
-        record {
-          farmsAtLeast = omega arith;
-          farmsAtMost = omega arith;
-          testersAtMost = omega arith;
-          targetsAtMost = omega arith;
-          farmsFollowHeader = refl;
-          testersFollowFarms = refl;
-          targetsFollowTesters = refl;
-          endsWithTargets = refl;
-        };
+          record {
+            farmsAtLeast = omega arith;
+            farmsAtMost = omega arith;
+            testersAtMost = omega arith;
+            targetsAtMost = omega arith;
+            farmsFollowHeader = refl;
+            testersFollowFarms = refl;
+            targetsFollowTesters = refl;
+            endsWithTargets = refl;
+          };
       farms = record { eachFarm = only-farm; rowsAtMost = omega arith };
       testers = record { eachKnown = only-tester; addressesAscend = λ i j h k. absurd (omega arith) };
       targets = record { eachKnown = only-target; addressesAscend = λ i j h k. absurd (omega arith) };

@@ -1,8 +1,8 @@
 -- Laws of the lookup and of what it looks through: a section of the sheet as a list of testers or targets.
 -- Assumes nothing.
-use mathlib.Core.Path.{_≡_, refl, sym, ap, _∙_, subst}
+use mathlib.Core.Path.{_≡_, refl, sym, ap, _∙_}
 use mathlib.Core.Bool.{Bool, true, false}
-use mathlib.Core.List.{List, [], _∷_, map, List·Memᴰ, List·Memᴰ·head, List·Memᴰ·tail, List·Memᴰ·not-nil, List·Memᴰ·cases-cons}
+use mathlib.Core.List.{List, [], _∷_, List·Memᴰ, List·Memᴰ·head, List·Memᴰ·tail, List·Memᴰ·not-nil, List·Memᴰ·cases-cons}
 use mathlib.Core.Logic.{⊎-elim}
 use Prim.Native.Nat.{ℕ, zero, suc, _+_, _*_, _-_, _≤_, _<_}
 use native.Mathlib.Nat.{eq-or-lt-of-le}
@@ -118,12 +118,12 @@ stands s at zero k m = absurd (List·Memᴰ·not-nil m)
 stands s at (suc n) k m =
     ⊎-elim
     (λ (e : k ≡ knownFrom (part s at knownSize)).
-      let z : at ≡ at + 0 * knownSize = omega arith in
-      record { i = 0; within = omega arith; same = e ∙ ap (λ (p : ℕ). knownFrom (part s p knownSize)) z })
+    let z : at ≡ at + 0 * knownSize = omega arith in
+    record { i = 0; within = omega arith; same = e ∙ ap (λ (p : ℕ). knownFrom (part s p knownSize)) z })
     (λ (t : List·Memᴰ k (knownsAt s (at + knownSize) n)).
-      let u = stands s (at + knownSize) n k t in
-      let z : at + knownSize + u .i * knownSize ≡ at + suc (u .i) * knownSize = omega arith in
-      record { i = suc (u .i); within = omega arith; same = u .same ∙ ap (λ (p : ℕ). knownFrom (part s p knownSize)) z })
+    let u = stands s (at + knownSize) n k t in
+    let z : at + knownSize + u .i * knownSize ≡ at + suc (u .i) * knownSize = omega arith in
+    record { i = suc (u .i); within = omega arith; same = u .same ∙ ap (λ (p : ℕ). knownFrom (part s p knownSize)) z })
     (List·Memᴰ·cases-cons m)
 
 pub record GoodMember (k : Known) (farms most : ℕ) : Type 0 where
@@ -152,10 +152,10 @@ module _ (s : List ℕ) (at n farms most : ℕ) (g : GoodSection s at n farms mo
       let b : l .address ≡ addressAt s at (u .i) = ap (λ (w : Known). w .address) (u .same ∙ known-part s (at + u .i * knownSize)) in
       ⊎-elim
       (λ (le : t .i ≤ u .i).
-        ⊎-elim
-        (λ (h : t .i ≡ u .i). t .same ∙ ap (λ (j : ℕ). knownFrom (part s (at + j * knownSize) knownSize)) h ∙ sym (u .same))
-        (λ (h : t .i < u .i). absurd (omega (arith, g .addressesAscend (t .i) (u .i) h (u .within))))
-        (eq-or-lt-of-le le))
+      ⊎-elim
+      (λ (h : t .i ≡ u .i). t .same ∙ ap (λ (j : ℕ). knownFrom (part s (at + j * knownSize) knownSize)) h ∙ sym (u .same))
+      (λ (h : t .i < u .i). absurd (omega (arith, g .addressesAscend (t .i) (u .i) h (u .within))))
+      (eq-or-lt-of-le le))
       (λ (h : u .i < t .i). absurd (omega (arith, g .addressesAscend (u .i) (t .i) h (t .within))))
       (le-or-lt (t .i) (u .i))
 

@@ -109,11 +109,11 @@ module _ (s : List ℕ) where
   place-before (suc n) r h =
       ⊎-elim
       (λ (l : firstRow s n ≤ r).
-        record { farm = n; seat = r - firstRow s n; isSeat = record { farmWithin = omega arith; seatWithin = omega arith; isRow = omega arith } })
+      record { farm = n; seat = r - firstRow s n; isSeat = record { farmWithin = omega arith; seatWithin = omega arith; isRow = omega arith } })
       (λ (l : r < firstRow s n).
-        let p = place-before n r l in
-        let q = p .isSeat in
-        record { farm = p .farm; seat = p .seat; isSeat = record { farmWithin = omega arith; seatWithin = q .seatWithin; isRow = q .isRow } })
+      let p = place-before n r l in
+      let q = p .isSeat in
+      record { farm = p .farm; seat = p .seat; isSeat = record { farmWithin = omega arith; seatWithin = q .seatWithin; isRow = q .isRow } })
       (le-or-lt (firstRow s n) r)
 
   -- each row of the sheet is a seat of a farm
@@ -141,9 +141,9 @@ module _ (s : List ℕ) where
       ⊎-elim
       (λ (h : rowsIn s ≤ r). h)
       (λ (h : r < rowsIn s).
-        let p = place-of r h in
-        let q : ownerOf s r ≡ Seat (farmNo (p .farm)) (p .seat) = seat-owner r (p .farm) (p .seat) (p .isSeat) in
-        absurd (let z : _≡_ {A = ℕ} 0 1 = cc in omega arith))
+      let p = place-of r h in
+      let q : ownerOf s r ≡ Seat (farmNo (p .farm)) (p .seat) = seat-owner r (p .farm) (p .seat) (p .isSeat) in
+      absurd (let z : _≡_ {A = ℕ} 0 1 = cc in omega arith))
       (le-or-lt (rowsIn s) r)
 
   -- a seat exactly where the row is that seat
@@ -152,7 +152,7 @@ module _ (s : List ℕ) where
       ⊎-elim
       (λ (h : rowsIn s ≤ r). let b : ownerOf s r ≡ Nobody = owner-beyond r h in absurd (let z : _≡_ {A = ℕ} 0 1 = cc in omega arith))
       (λ (h : r < rowsIn s).
-        let p = place-of r h in
-        let q = same-seat (sym (seat-owner r (p .farm) (p .seat) (p .isSeat)) ∙ e) in
-        subst (IsSeat (farmCount s) r f) (q .1) (subst (λ (g : ℕ). IsSeat (farmCount s) r g (p .seat)) (q .0) (p .isSeat)))
+      let p = place-of r h in
+      let q = same-seat (sym (seat-owner r (p .farm) (p .seat) (p .isSeat)) ∙ e) in
+      subst (IsSeat (farmCount s) r f) (q .1) (subst (λ (g : ℕ). IsSeat (farmCount s) r g (p .seat)) (q .0) (p .isSeat)))
       (le-or-lt (rowsIn s) r)

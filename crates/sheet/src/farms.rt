@@ -5,8 +5,9 @@ ghost use lib.Dec.{ltb};
 ghost use lib.ListN.{length};
 ghost use Rattle.sheet.specs.Sheet.{headSize, farmCount, entityOf, quotaOf, modeOf, farmRecord};
 ghost use Rattle.sheet.specs.Rules.{GoodSheet};
+use crate::FARM_SIZE;
+use crate::HEAD_SIZE;
 use crate::head::farm_count;
-use crate::{FARM_SIZE, HEAD_SIZE};
 use kinds::FarmNo;
 
 // Refusal 5 is where this says no.

@@ -6,8 +6,11 @@ ghost use Rattle.octets.specs.Parts.{part};
 ghost use Rattle.sheet.specs.Sheet.{knownSize, knownFrom, knownsAt, testersOf, targetsOf};
 ghost use Rattle.sheet.specs.Rules.{GoodSheet};
 ghost use Rattle.sheet.specs.Find.{lookup};
-use crate::head::{target_count, targets_at, tester_count, testers_at};
 use crate::KNOWN_SIZE;
+use crate::head::target_count;
+use crate::head::targets_at;
+use crate::head::tester_count;
+use crate::head::testers_at;
 use kinds::FarmNo;
 
 // A tester or a target. The flag is a target's reachable; a tester's is 0.

@@ -3,7 +3,9 @@ ghost use mathlib.Core.Path.{_≡_};
 ghost use Prim.Native.Nat.{_≤_};
 ghost use lib.ListN.{length};
 ghost use Rattle.sheet.specs.Sheet.{headSize, farmCount, testerCount, targetCount, testersAt, targetsAt};
-use crate::{FARM_SIZE, HEAD_SIZE, KNOWN_SIZE};
+use crate::FARM_SIZE;
+use crate::HEAD_SIZE;
+use crate::KNOWN_SIZE;
 
 pub fn farm_count(s: &[u8]) -> usize
     requires { ⌜ headSize ≤ length (now s) ⌝ }

@@ -8,5 +8,7 @@ pub mod rules;
 
 // Where things stand, as specs/Sheet.antt has it.
 const HEAD_SIZE: usize = 12;
+
 const FARM_SIZE: usize = 33;
+
 const KNOWN_SIZE: usize = 4;

@@ -5,9 +5,11 @@ ghost use lib.ListN.{length};
 ghost use Rattle.sheet.specs.Sheet.{headSize, farmSize, mostRows, farmCount};
 ghost use Rattle.sheet.specs.Rules.{GoodSheet};
 ghost use Rattle.sheet.specs.Rows.{firstRow, rowsOwned, rowsIn, ownerOf};
+use crate::FARM_SIZE;
+use crate::HEAD_SIZE;
 use crate::head::farm_count;
-use crate::{FARM_SIZE, HEAD_SIZE};
-use kinds::{FarmNo, RowNo};
+use kinds::FarmNo;
+use kinds::RowNo;
 
 // The farm that owns a row, and the row's seat within it, 0 to q; Nobody for a row beyond the sheet's.
 pub enum Owner {

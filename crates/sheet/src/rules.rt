@@ -5,17 +5,29 @@ ghost use lib.ListN.{length};
 ghost use Rattle.octets.specs.Says.{Says};
 ghost use Rattle.sheet.specs.Sheet.{headSize, farmSize, knownSize};
 ghost use Rattle.sheet.specs.Rules.{GoodHead, GoodFarms, GoodSection, GoodSheet};
-use crate::head::{farm_count, target_count, targets_at, tester_count, testers_at};
-use crate::{FARM_SIZE, HEAD_SIZE, KNOWN_SIZE};
+use crate::FARM_SIZE;
+use crate::HEAD_SIZE;
+use crate::KNOWN_SIZE;
+use crate::head::farm_count;
+use crate::head::target_count;
+use crate::head::targets_at;
+use crate::head::tester_count;
+use crate::head::testers_at;
 
 const MOST_FARMS: usize = 4;
+
 const MOST_TESTERS: usize = 32;
+
 const MOST_TARGETS: usize = 64;
+
 const MOST_QUOTA: u8 = 8;
+
 const MOST_MODE: u8 = 2;
+
 const MOST_ROWS: u8 = 16;
 // A tester's fourth byte is zero, a target's is reachable 0 or 1.
 const TESTER_FLAG: u8 = 0;
+
 const TARGET_FLAG: u8 = 1;
 
 // Counts, offsets and length.

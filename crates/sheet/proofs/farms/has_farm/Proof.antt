@@ -3,9 +3,6 @@ use lib.Dec.{ltb}
 use borrow.Author.Needs.{needs}
 use Rattle.sheet.proofs.farms.has_farm.Statement.{statement}
 use Rattle.sheet.proofs.farms.has_farm.Tie as tie
-use Rattle.sheet.proofs.farms.has_farm.Reads as reads
-use Rattle.sheet.proofs.farms.has_farm.Lts as lts
-use Rattle.sheet.proofs.head.farm_count.Reads as farm-count-reads
 
 cast-i : tie.Need-cast-i
 cast-i c = search needs

@@ -7,8 +7,6 @@ use Rattle.sheet.specs.Sheet.{farmAt, farmSize}
 use borrow.Author.Needs.{needs}
 use Rattle.sheet.proofs.farms.record_of.Statement.{statement}
 use Rattle.sheet.proofs.farms.record_of.Tie as tie
-use Rattle.sheet.proofs.farms.record_of.Reads as reads
-use Rattle.sheet.proofs.farms.record_of.Lts as lts
 
 cast-i : tie.Need-cast-i
 cast-i c = search needs

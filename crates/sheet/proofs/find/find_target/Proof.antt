@@ -4,11 +4,6 @@ use Rattle.sheet.proofs.FindLaws.{lookup-same}
 use borrow.Author.Needs.{needs}
 use Rattle.sheet.proofs.find.find_target.Statement.{statement}
 use Rattle.sheet.proofs.find.find_target.Tie as tie
-use Rattle.sheet.proofs.find.find_target.Reads as reads
-use Rattle.sheet.proofs.find.find_target.Lts as lts
-use Rattle.sheet.proofs.find.lookup_in.Reads as lookup-in-reads
-use Rattle.sheet.proofs.head.target_count.Reads as target-count-reads
-use Rattle.sheet.proofs.head.targets_at.Reads as targets-at-reads
 
 targets-at-requires : tie.Need-targets-at-requires
 targets-at-requires c κs = search needs

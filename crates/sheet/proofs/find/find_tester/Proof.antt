@@ -4,11 +4,6 @@ use Rattle.sheet.proofs.FindLaws.{lookup-same}
 use borrow.Author.Needs.{needs}
 use Rattle.sheet.proofs.find.find_tester.Statement.{statement}
 use Rattle.sheet.proofs.find.find_tester.Tie as tie
-use Rattle.sheet.proofs.find.find_tester.Reads as reads
-use Rattle.sheet.proofs.find.find_tester.Lts as lts
-use Rattle.sheet.proofs.find.lookup_in.Reads as lookup-in-reads
-use Rattle.sheet.proofs.head.tester_count.Reads as tester-count-reads
-use Rattle.sheet.proofs.head.testers_at.Reads as testers-at-reads
 
 testers-at-requires : tie.Need-testers-at-requires
 testers-at-requires c κs = search needs

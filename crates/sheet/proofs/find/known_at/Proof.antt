@@ -1,12 +1,9 @@
-use mathlib.Core.Path.{_≡_, sym, ap, _∙_}
+use mathlib.Core.Path.{sym}
 use denote.Ref.{now}
 use Rattle.sheet.proofs.FindLaws.{known-part}
 use borrow.Author.Needs.{needs}
 use Rattle.sheet.proofs.find.known_at.Statement.{statement}
 use Rattle.sheet.proofs.find.known_at.Tie as tie
-use Rattle.sheet.proofs.find.known_at.Reads as reads
-use Rattle.sheet.proofs.find.known_at.Lts as lts
-use Rattle.octets.proofs.read16.Reads as read16-reads
 
 read16-requires : tie.Need-read16-requires
 read16-requires c κs = search needs

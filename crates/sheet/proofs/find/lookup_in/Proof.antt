@@ -9,10 +9,6 @@ use Rattle.sheet.specs.Find.{lookup}
 use Rattle.sheet.proofs.FindLaws.{lookup-here, lookup-next, lookup-end}
 use Rattle.sheet.proofs.find.lookup_in.Statement.{statement}
 use Rattle.sheet.proofs.find.lookup_in.Tie as tie
-use Rattle.sheet.proofs.find.lookup_in.Reads as reads
-use Rattle.sheet.proofs.find.lookup_in.Lts as lts
-use Rattle.octets.proofs.read16.Reads as read16-reads
-use Rattle.sheet.proofs.find.known_at.Reads as known-at-reads
 
 abbrev Inv-loop : tie.InvT-loop
 Inv-loop s at n address p₀ left₀ p left = (p + left * knownSize ≤ length s) × (lookup address (knownsAt s at n) ≡ lookup address (knownsAt s p left))
@@ -48,8 +44,7 @@ loop-less c = omega arith
 loop-again : tie.Need-loop-again Inv-loop μ-loop
 loop-again c =
     let a = c .before .before .before .before .before .args in
-    let l = c .before .before .before .loop in
-    (
+    let l = c .before .before .before .loop in (
       omega arith,
       l .inv .1 ∙ lookup-next (a .address) (now (a .s)) (l .p) (l .left) (omega arith) (λ e. c .if1 .left (c .before .read16 .ensures ∙ e)),
     )

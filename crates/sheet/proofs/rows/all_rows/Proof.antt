@@ -8,10 +8,6 @@ use Rattle.sheet.proofs.RowsLaws.{rows-few}
 use borrow.Author.Needs.{needs}
 use Rattle.sheet.proofs.rows.all_rows.Statement.{statement}
 use Rattle.sheet.proofs.rows.all_rows.Tie as tie
-use Rattle.sheet.proofs.rows.all_rows.Reads as reads
-use Rattle.sheet.proofs.rows.all_rows.Lts as lts
-use Rattle.sheet.proofs.head.farm_count.Reads as farm-count-reads
-use Rattle.sheet.proofs.rows.rows_before.Reads as rows-before-reads
 
 farm-count-requires : tie.Need-farm-count-requires
 farm-count-requires c κs = search needs

@@ -4,9 +4,6 @@ use Rattle.sheet.proofs.RowsLaws.{first-few}
 use borrow.Author.Needs.{needs}
 use Rattle.sheet.proofs.rows.first_row.Statement.{statement}
 use Rattle.sheet.proofs.rows.first_row.Tie as tie
-use Rattle.sheet.proofs.rows.first_row.Reads as reads
-use Rattle.sheet.proofs.rows.first_row.Lts as lts
-use Rattle.sheet.proofs.rows.rows_before.Reads as rows-before-reads
 
 cast-i : tie.Need-cast-i
 cast-i c = search needs

@@ -1,17 +1,13 @@
-use mathlib.Core.Path.{_≡_, sym, ap, _∙_, refl}
-use Prim.Native.Nat.{ℕ, suc, _+_, _-_, _≤_, _<_}
+use mathlib.Core.Path.{_≡_, sym, ap, _∙_}
+use Prim.Native.Nat.{ℕ, suc, _-_, _≤_}
 use native.Mathlib.Omega.{arith}
 use native.Mathlib.Numerals.{add-one}
 use denote.Ref.{now}
 use Rattle.sheet.specs.Sheet.{farmCount}
-use Rattle.sheet.specs.Rules.{GoodSheet}
-use Rattle.sheet.specs.Rows.{rowsOwned, ownerOf, ownerFrom}
+use Rattle.sheet.specs.Rows.{ownerOf, ownerFrom}
 use Rattle.sheet.proofs.RowsLaws.{owner-here, owner-next, owner-none}
 use Rattle.sheet.proofs.rows.owner_of.Statement.{statement}
 use Rattle.sheet.proofs.rows.owner_of.Tie as tie
-use Rattle.sheet.proofs.rows.owner_of.Reads as reads
-use Rattle.sheet.proofs.rows.owner_of.Lts as lts
-use Rattle.sheet.proofs.rows.rows_owned.Reads as rows-owned-reads
 
 abbrev Inv-loop : tie.InvT-loop
 Inv-loop s n left₀ i₀ left i = (i ≤ n) × (n ≡ farmCount s) × (left ≤ left₀) × (ownerOf s left₀ ≡ ownerFrom s (n - i) i left)
@@ -66,16 +62,15 @@ loop-again c =
     let l = c .before .before .before .loop in
     let n = c .before .before .before .before .before .farm-count .result in
     let o = c .before .rows-owned in
-    let e : n - l .i ≡ suc (n - suc (l .i)) = omega arith in
-    (
+    let e : n - l .i ≡ suc (n - suc (l .i)) = omega arith in (
       omega arith,
       l .inv .1,
       omega (arith, l .inv .2),
       l .inv .3
-      ∙ ap (λ (k : ℕ). ownerFrom s k (l .i) (l .left)) e
-      ∙ owner-next s (n - suc (l .i)) (l .i) (l .left) (omega (arith, o .ensures))
-      ∙ ap (λ (k : ℕ). ownerFrom s (n - suc (l .i)) (suc (l .i)) (l .left - k)) (sym (o .ensures))
-      ∙ ap (λ (k : ℕ). ownerFrom s (n - k) k (l .left - o .result)) (sym (add-one (l .i))),
+          ∙ ap (λ (k : ℕ). ownerFrom s k (l .i) (l .left)) e
+          ∙ owner-next s (n - suc (l .i)) (l .i) (l .left) (omega (arith, o .ensures))
+          ∙ ap (λ (k : ℕ). ownerFrom s (n - suc (l .i)) (suc (l .i)) (l .left - k)) (sym (o .ensures))
+          ∙ ap (λ (k : ℕ). ownerFrom s (n - k) k (l .left - o .result)) (sym (add-one (l .i))),
     )
 
 returns-2 : tie.Need-returns-2 Inv-loop μ-loop

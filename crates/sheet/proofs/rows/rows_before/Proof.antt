@@ -1,5 +1,5 @@
 use mathlib.Core.Path.{_≡_, ap, _∙_, refl}
-use Prim.Native.Nat.{suc, _+_, _-_, _≤_}
+use Prim.Native.Nat.{suc, _-_, _≤_}
 use native.Mathlib.Omega.{arith}
 use native.Mathlib.Numerals.{add-one}
 use denote.Ref.{now}
@@ -7,9 +7,6 @@ use Rattle.sheet.specs.Rows.{firstRow}
 use Rattle.sheet.proofs.RowsLaws.{rows-mono}
 use Rattle.sheet.proofs.rows.rows_before.Statement.{statement}
 use Rattle.sheet.proofs.rows.rows_before.Tie as tie
-use Rattle.sheet.proofs.rows.rows_before.Reads as reads
-use Rattle.sheet.proofs.rows.rows_before.Lts as lts
-use Rattle.sheet.proofs.rows.rows_owned.Reads as rows-owned-reads
 
 abbrev Inv-loop : tie.InvT-loop
 Inv-loop s n sum₀ i₀ sum i = (i ≤ n) × (sum ≡ firstRow s i)

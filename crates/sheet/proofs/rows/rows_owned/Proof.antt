@@ -1,12 +1,9 @@
-use Prim.Native.Nat.{_+_, _*_}
+use Prim.Native.Nat.{_+_}
 use Rattle.sheet.specs.Sheet.{farmAt}
 use native.Mathlib.Omega.{arith}
 use borrow.Author.Needs.{needs}
 use Rattle.sheet.proofs.rows.rows_owned.Statement.{statement}
 use Rattle.sheet.proofs.rows.rows_owned.Tie as tie
-use Rattle.sheet.proofs.rows.rows_owned.Reads as reads
-use Rattle.sheet.proofs.rows.rows_owned.Lts as lts
-use Rattle.octets.proofs.wide.Reads as wide-reads
 
 mul-p : tie.Need-mul-p
 mul-p c = search needs

@@ -11,9 +11,6 @@ use Rattle.octets.proofs.SaysLaws.{says-yes, says-no}
 use Rattle.sheet.proofs.RowsLaws.{rows-mono}
 use Rattle.sheet.proofs.rules.farms_ok.Statement.{statement}
 use Rattle.sheet.proofs.rules.farms_ok.Tie as tie
-use Rattle.sheet.proofs.rules.farms_ok.Reads as reads
-use Rattle.sheet.proofs.rules.farms_ok.Lts as lts
-use Rattle.octets.proofs.read16.Reads as read16-reads
 
 abbrev Inv-loop : tie.InvT-loop
 Inv-loop s n left₀ i₀ left i = (i ≤ n) × (left + firstRow s i ≡ mostRows) × ((f : ℕ) → f < i → GoodFarm s f)

@@ -3,9 +3,6 @@ use Rattle.octets.proofs.SaysLaws.{says-yes, says-no}
 use borrow.Author.Needs.{needs}
 use Rattle.sheet.proofs.rules.head_ok.Statement.{statement}
 use Rattle.sheet.proofs.rules.head_ok.Tie as tie
-use Rattle.sheet.proofs.rules.head_ok.Reads as reads
-use Rattle.sheet.proofs.rules.head_ok.Lts as lts
-use Rattle.octets.proofs.read16.Reads as read16-reads
 
 read16-requires : tie.Need-read16-requires
 read16-requires c κs = search needs

@@ -8,10 +8,6 @@ use Rattle.octets.proofs.SaysLaws.{says-yes, says-no}
 use Rattle.sheet.proofs.RulesLaws.{addressBefore, PassedTo, section-good, section-passed}
 use Rattle.sheet.proofs.rules.section_ok.Statement.{statement}
 use Rattle.sheet.proofs.rules.section_ok.Tie as tie
-use Rattle.sheet.proofs.rules.section_ok.Reads as reads
-use Rattle.sheet.proofs.rules.section_ok.Lts as lts
-use Rattle.octets.proofs.read16.Reads as read16-reads
-use Rattle.octets.proofs.wide.Reads as wide-reads
 
 abbrev Inv-loop : tie.InvT-loop
 Inv-loop s at n farms most last₀ i₀ last i = (i ≤ n) × (last ≡ addressBefore s at i) × PassedTo s at farms most i

@@ -1,4 +1,4 @@
-use mathlib.Core.Path.{_≡_, subst}
+use mathlib.Core.Path.{subst}
 use Prim.Native.Nat.{ℕ}
 use native.Mathlib.Omega.{arith}
 use borrow.Author.Tests.{not-true, not-false}
@@ -11,16 +11,6 @@ use Rattle.sheet.proofs.RulesLaws.{says-section}
 use borrow.Author.Needs.{needs}
 use Rattle.sheet.proofs.rules.sheet_ok.Statement.{statement}
 use Rattle.sheet.proofs.rules.sheet_ok.Tie as tie
-use Rattle.sheet.proofs.rules.sheet_ok.Reads as reads
-use Rattle.sheet.proofs.rules.sheet_ok.Lts as lts
-use Rattle.sheet.proofs.head.farm_count.Reads as farm-count-reads
-use Rattle.sheet.proofs.head.target_count.Reads as target-count-reads
-use Rattle.sheet.proofs.head.targets_at.Reads as targets-at-reads
-use Rattle.sheet.proofs.head.tester_count.Reads as tester-count-reads
-use Rattle.sheet.proofs.head.testers_at.Reads as testers-at-reads
-use Rattle.sheet.proofs.rules.farms_ok.Reads as farms-ok-reads
-use Rattle.sheet.proofs.rules.head_ok.Reads as head-ok-reads
-use Rattle.sheet.proofs.rules.section_ok.Reads as section-ok-reads
 
 -- what each test says, of the sheet's own counts and places
 head : (c : tie.Else2) → GoodHead (now (c .before .before .before .before .args .s))
