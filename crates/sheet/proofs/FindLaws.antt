@@ -2,7 +2,7 @@
 -- Assumes nothing.
 use mathlib.Core.Path.{_≡_, refl, sym, ap, _∙_}
 use mathlib.Core.Bool.{Bool, true, false}
-use mathlib.Core.List.{List, [], _∷_, List·Memᴰ, List·Memᴰ·head, List·Memᴰ·tail, List·Memᴰ·not-nil, List·Memᴰ·cases-cons}
+use mathlib.Core.List.{List, [], _∷_, List·Memᴰ, List·Memᴰ·head, List·Memᴰ·tail, List·Memᴰ·not-nil, List·Memᴰ·cases-cons, Memᴰ·cast}
 use mathlib.Core.Logic.{⊎-elim}
 use Prim.Native.Nat.{ℕ, zero, suc, _+_, _*_, _-_, _≤_, _<_}
 use native.Mathlib.Nat.{eq-or-lt-of-le}
@@ -126,6 +126,16 @@ stands s at (suc n) k m =
     record { i = suc (u .i); within = omega arith; same = u .same ∙ ap (λ (p : ℕ). knownFrom (part s p knownSize)) z })
     (List·Memᴰ·cases-cons m)
 
+-- and each of the n is a member
+pub stands-member : (s : List ℕ) (at n i : ℕ) → i < n → List·Memᴰ (knownFrom (part s (at + i * knownSize) knownSize)) (knownsAt s at n)
+unfolding parts
+stands-member s at zero i h = absurd (omega arith)
+stands-member s at (suc n) zero h =
+    let z : at + 0 * knownSize ≡ at = omega arith in List·Memᴰ·head (ap (λ (p : ℕ). knownFrom (part s p knownSize)) z)
+stands-member s at (suc n) (suc i) h =
+    let z : at + suc i * knownSize ≡ at + knownSize + i * knownSize = omega arith in
+    List·Memᴰ·tail (Memᴰ·cast (ap (λ (p : ℕ). knownFrom (part s p knownSize)) z) (stands-member s (at + knownSize) n i (omega arith)))
+
 pub record GoodMember (k : Known) (farms most : ℕ) : Type 0 where
   pub addressNotZero : 0 < k .address
   pub farmExists : k .farm .0 < farms
@@ -189,3 +199,10 @@ module _ (s : List ℕ) (g : GoodSheet s) where
 
   pub lookup-target : (k : Known) → List·Memᴰ k (targetsOf s) → lookup (k .address) (targetsOf s) ≡ Is k
   lookup-target = lookup-member s (targetsAt s) (targetCount s) (farmCount s) targetFlag (g .targets)
+
+  -- what a lookup hands out is good
+  pub found-tester : (x : ℕ) (k : Known) → lookup x (testersOf s) ≡ Is k → GoodMember k (farmCount s) testerFlag
+  found-tester x k e = tester-good k (lookup-finds x (testersOf s) k e .member)
+
+  pub found-target : (x : ℕ) (k : Known) → lookup x (targetsOf s) ≡ Is k → GoodMember k (farmCount s) targetFlag
+  found-target x k e = target-good k (lookup-finds x (targetsOf s) k e .member)

@@ -1,3 +1,5 @@
+-- `has_farm` meets its contract.
+-- Assumes nothing.
 use mathlib.Core.Path.{ap}
 use lib.Dec.{ltb}
 use borrow.Author.Needs.{needs}

@@ -1,3 +1,5 @@
+-- `record_of` meets its contract: from a farm's place to the next one's is a farm's size.
+-- Assumes nothing.
 use mathlib.Core.Path.{_≡_, ap}
 use Prim.Native.Nat.{ℕ, _+_, _-_}
 use native.Mathlib.Omega.{arith}

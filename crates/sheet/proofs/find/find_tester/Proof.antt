@@ -1,3 +1,5 @@
+-- `find_tester` meets its contract: the place and the count that it hands on are the section's own.
+-- Assumes nothing.
 use mathlib.Core.Path.{_∙_}
 use denote.Ref.{now}
 use Rattle.sheet.proofs.FindLaws.{lookup-same}

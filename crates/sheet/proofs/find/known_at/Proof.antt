@@ -1,3 +1,5 @@
+-- `known_at` meets its contract: what is read where it stands is what the four bytes say.
+-- Assumes nothing.
 use mathlib.Core.Path.{sym}
 use denote.Ref.{now}
 use Rattle.sheet.proofs.FindLaws.{known-part}

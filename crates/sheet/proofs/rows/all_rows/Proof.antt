@@ -1,3 +1,5 @@
+-- `all_rows` meets its contract.
+-- Assumes nothing.
 use mathlib.Core.Path.{_∙_, sym, ap, subst}
 use Prim.Native.Nat.{ℕ, _≤_}
 use native.Mathlib.Omega.{arith}

@@ -1,3 +1,5 @@
+-- `first_row` meets its contract: a good sheet's rows are few enough for a byte.
+-- Assumes nothing.
 use native.Mathlib.Omega.{arith}
 use denote.Ref.{now}
 use Rattle.sheet.proofs.RowsLaws.{first-few}

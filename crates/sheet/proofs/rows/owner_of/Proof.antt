@@ -1,3 +1,5 @@
+-- `owner_of` meets its contract. The walk: the owner among all farms is the owner among those left, the row counted from the first row of the next.
+-- Assumes nothing.
 use mathlib.Core.Path.{_≡_, sym, ap, _∙_}
 use Prim.Native.Nat.{ℕ, suc, _-_, _≤_}
 use native.Mathlib.Omega.{arith}

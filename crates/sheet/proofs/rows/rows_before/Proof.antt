@@ -1,3 +1,5 @@
+-- `rows_before` meets its contract. The walk: the sum is the first row of the farm that comes next.
+-- Assumes nothing.
 use mathlib.Core.Path.{_≡_, ap, _∙_, refl}
 use Prim.Native.Nat.{suc, _-_, _≤_}
 use native.Mathlib.Omega.{arith}

@@ -1,3 +1,5 @@
+-- `rows_owned` meets its contract: a byte and one more fit.
+-- Assumes nothing.
 use Prim.Native.Nat.{_+_}
 use Rattle.sheet.specs.Sheet.{farmAt}
 use native.Mathlib.Omega.{arith}

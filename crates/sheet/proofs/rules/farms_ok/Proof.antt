@@ -1,3 +1,5 @@
+-- `farms_ok` meets its contract. The walk: the farms passed are good, and what is left of the rows and the rows passed make the most there may be.
+-- Assumes nothing.
 use mathlib.Core.Path.{_≡_, subst}
 use Prim.Native.Nat.{ℕ, suc, _+_, _-_, _≤_, _<_}
 use native.Mathlib.Omega.{arith}

@@ -1,3 +1,5 @@
+-- `head_ok` meets its contract: each early answer breaks the rule that its test names, and past all tests every rule holds.
+-- Assumes nothing.
 use native.Mathlib.Omega.{arith}
 use Rattle.octets.proofs.SaysLaws.{says-yes, says-no}
 use borrow.Author.Needs.{needs}

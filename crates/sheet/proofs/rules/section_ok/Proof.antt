@@ -1,3 +1,5 @@
+-- `section_ok` meets its contract. The walk: each one passed is above the one before it, and `last` is the address before the next.
+-- Assumes nothing.
 use mathlib.Core.Path.{_≡_, refl, sym, ap, subst, _∙_}
 use Prim.Native.Nat.{_-_, _≤_}
 use native.Mathlib.Omega.{arith}

@@ -1,3 +1,5 @@
+-- `sheet_ok` meets its contract: the four tests together are refusal 1.
+-- Assumes nothing.
 use mathlib.Core.Path.{subst}
 use Prim.Native.Nat.{ℕ}
 use native.Mathlib.Omega.{arith}
