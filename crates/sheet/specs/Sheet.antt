@@ -70,6 +70,7 @@ module _ (s : List ℕ) where
 
 -- ---- "The three sections follow in that order without gaps, and the sheet ends where the last one ends."
 
+-- where farm f stands; the testers stand where one farm more would
 abbrev pub farmAt : ℕ → ℕ
 farmAt f = headSize + f * farmSize
 
