@@ -1,0 +1,5 @@
+pub mod Order
+pub mod RulesLaws
+pub mod FindLaws
+pub mod RowsLaws
+pub mod Example
