@@ -7,7 +7,7 @@ use Prim.Native.Nat.{ℕ, zero, suc, _+_, _*_, _/_, _%_, _≤_, _<_}
 use native.Mathlib.Numerals.{add-one}
 use native.Mathlib.Omega.{arith}
 use lib.Dec.{ltb}
-use lib.ListN.{length, getD, set, drop, take, replicate, length-map, length-append, length-set, length-replicate, List·getD-map}
+use lib.ListN.{length, getD, set, take, replicate, length-map, length-append, length-set, length-replicate, List·getD-map}
 use lib.Seq.{drop-set-lt, getD-set-same}
 use borrow.Author.Tests.{lt-ltb, le-ltb, ltb-true}
 use Rattle.octets.specs.Choice.{pick}
@@ -60,6 +60,9 @@ item-back it = rw (reply-back (it .reply))
 pub count-items : (p : List ℕ) → length (itemsOf p) ≡ getD p 0 0
 unfolding itemsOf
 count-items p = length-map (parts itemSize 1 (getD p 0 0) p) itemFrom ∙ parts-length itemSize 1 (getD p 0 0) p
+
+pub items-few : (p : List ℕ) → PlanOk p → length (itemsOf p) ≤ planRoom
+items-few p ok = omega (arith, count-items p, ok .few)
 
 at-part : (p : List ℕ) (at k m : ℕ) → k < itemSize → m ≡ at + k → getD (part p at itemSize) k 0 ≡ getD p m 0
 at-part p at k m h e = getD-part p at itemSize k h ∙ ap (λ (j : ℕ). getD p j 0) (sym e)
@@ -178,6 +181,15 @@ module _ (p q r : List ℕ) (it : Item) (w : PlanOk p) (h : getD p 0 0 < planRoo
         ok = record { long = ap length er ∙ length-set q 0 (getD p 0 0 + 1) ∙ long-q; few = omega (arith, count) };
       }
 
+-- ---- what a plan says after a push, where it is known what it said before
+
+pub said-pushed : {p q : List ℕ} {items : List Item} (it : Item) → Said p items → Said q (pushedTo (itemsOf p) it) → Said q (pushedTo items it)
+said-pushed it s t = record { is = t .is ∙ ap (λ l. pushedTo l it) (s .is); ok = t .ok }
+
+pub said-more : {p q : List ℕ} {items : List Item} (it : Item) → length items < planRoom
+    → Said p items → Said q (pushedTo (itemsOf p) it) → Said q (items ++ (it ∷ []))
+said-more {items = items} it h s t = record { is = said-pushed it s t .is ∙ pushed-room items it h; ok = t .ok }
+
 -- ---- lists that are pushed to
 
 pub length-pushed : (items : List Item) (it : Item) → length items < planRoom → length (pushedTo items it) ≡ length items + 1
@@ -187,9 +199,9 @@ pub pushed-few : (items : List Item) (it : Item) → length items ≤ planRoom �
 unfolding pushedTo
 pushed-few items it h = few (ltb (length items) planRoom) refl
   where
-  few : (b : Bool) → ltb (length items) planRoom ≡ b → length (pick b (items ++ (it ∷ [])) items) ≤ planRoom
-  few true e = omega (arith, ltb-true (length items) planRoom e, length-append items (it ∷ []))
-  few false e = h
+    few : (b : Bool) → ltb (length items) planRoom ≡ b → length (pick b (items ++ (it ∷ [])) items) ≤ planRoom
+    few true e = omega (arith, ltb-true (length items) planRoom e, length-append items (it ∷ []))
+    few false e = h
 
 count-snoc : (f : Item → Bool) (items : List Item) (it : Item) → countIf f (items ++ (it ∷ [])) ≡ countIf f items + pick (f it) 1 0
 unfolding countIf
@@ -201,14 +213,14 @@ pub count-pushed : (f : Item → Bool) (items : List Item) (it : Item) → count
 unfolding pushedTo
 count-pushed f items it = most (ltb (length items) planRoom)
   where
-  most : (b : Bool) → countIf f (pick b (items ++ (it ∷ [])) items) ≤ countIf f items + pick (f it) 1 0
-  most true = omega (arith, count-snoc f items it)
-  most false = omega arith
+    most : (b : Bool) → countIf f (pick b (items ++ (it ∷ [])) items) ≤ countIf f items + pick (f it) 1 0
+    most true = omega (arith, count-snoc f items it)
+    most false = omega arith
 
 pub count-passed : (f : Item → Bool) (items : List Item) (it : Item) → f it ≡ false → countIf f (pushedTo items it) ≡ countIf f items
 unfolding pushedTo
 count-passed f items it e = same (ltb (length items) planRoom)
   where
-  same : (b : Bool) → countIf f (pick b (items ++ (it ∷ [])) items) ≡ countIf f items
-  same true = let z : _≡_ {A = ℕ} (pick (f it) 1 0) 0 = ap (λ (b : Bool). pick b 1 0) e in omega (arith, count-snoc f items it)
-  same false = refl
+    same : (b : Bool) → countIf f (pick b (items ++ (it ∷ [])) items) ≡ countIf f items
+    same true = let z : _≡_ {A = ℕ} (pick (f it) 1 0) 0 = ap (λ (b : Bool). pick b 1 0) e in omega (arith, count-snoc f items it)
+    same false = refl

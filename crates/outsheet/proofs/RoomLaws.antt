@@ -1,26 +1,26 @@
 -- A plan's sheet has room, shown from counts alone; and the identity of a farm.
 -- Assumes nothing.
-use mathlib.Core.Path.{_≡_, refl, sym, ap, _∙_}
+use mathlib.Core.Path.{_≡_}
 use mathlib.Core.Bool.{Bool, true, false}
-use mathlib.Core.List.{List, [], _∷_, _++_}
-use Prim.Native.Nat.{ℕ, _+_, _*_, _≤_, _<_}
+use mathlib.Core.List.{List, [], _∷_}
+use Prim.Native.Nat.{ℕ, _+_, _*_, _≤_}
 use native.Mathlib.Omega.{arith}
 use lib.Dec.{eqb}
 use lib.ListN.{length, length-append, length-map}
 use borrow.Author.Tests.{eq-eqb}
 use Rattle.octets.specs.Choice.{pick}
 use Rattle.octets.specs.Search.{countIf}
-use Rattle.layout.specs.Layout.{identityBytes, messageBytes}
+use Rattle.layout.specs.Layout.{identityBytes}
 use Rattle.layout.proofs.MessageLaws.{length-message}
 use Rattle.layout.proofs.IdentityLaws.{identity-short}
 use Rattle.kinds.specs.declared.Reply.{Reply}
 use Rattle.kinds.specs.declared.Reply.the-variants.{Nack, Identity, Activation, AliveCheck, Status, PowerMode, Message, Ack, DiagnosticNack, Close, HandOn}
 use Rattle.kinds.specs.declared.Item.{Item}
-use Rattle.outsheet.specs.Sheet.{Entry, entryBytes, bodies, totalOf}
+use Rattle.outsheet.specs.Sheet.{entryBytes, bodies, totalOf}
 use Rattle.outsheet.specs.Replies.{recordSize, identityOf, replyBytes, entryOf, entriesOf, isLong, isLongItem}
 use Rattle.outsheet.specs.Plan.{planRoom, PlanOk, itemsOf}
 use Rattle.outsheet.specs.Contracts.{leastOutput, Room}
-use Rattle.outsheet.proofs.PlanLaws.{count-items}
+use Rattle.outsheet.proofs.PlanLaws.{items-few}
 use Rattle.outsheet.proofs.SheetLaws.{length-entry}
 
 -- of a lent record, the identity is sent
@@ -68,6 +68,6 @@ pub room-for : (p long : List ℕ) (n : ℕ) → PlanOk p → countIf isLongItem
 room-for p long n ok one h wide =
     record {
       ok = ok;
-      short = total-most long (itemsOf p) (omega (arith, count-items p, ok .few)) one h;
+      short = total-most long (itemsOf p) (items-few p ok) one h;
       wide = wide;
     }

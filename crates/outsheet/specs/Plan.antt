@@ -8,7 +8,6 @@ use lib.ListN.{length, getD}
 use Rattle.octets.specs.Choice.{pick}
 use Rattle.octets.specs.Numbers.{u16At, be16}
 use Rattle.octets.specs.Parts.{parts}
-use Rattle.kinds.specs.declared.RowNo.{RowNo}
 use Rattle.kinds.specs.declared.Reply.{Reply}
 use Rattle.kinds.specs.declared.Reply.the-variants.{Nack, Identity, Activation, AliveCheck, Status, PowerMode, Message, Ack, DiagnosticNack, Close, HandOn}
 use Rattle.kinds.specs.declared.Item.{Item}

@@ -13,8 +13,11 @@ const ROOM: u8 = 72;
 
 const SIZE: usize = 8;
 
+// The bytes of a plan, for a caller's array; its count is one of them.
+pub const PLAN: usize = 1 + ROOM as usize * SIZE;
+
 // An item's eight bytes, from its numbers.
-fn laid(row: RowNo, version: u8, tag: u8, code: u8, a: u16, b: u16) -> [u8; 8]
+fn laid(row: RowNo, version: u8, tag: u8, code: u8, a: u16, b: u16) -> [u8; SIZE]
     ensures { λ r. ⌜ r ≡ row .0 ∷ version ∷ said tag code a b ⌝ }
 {
     [
@@ -35,7 +38,7 @@ fn upper(x: u8) -> u16
     (x as u16) * 256
 }
 
-fn item_bytes(it: Item) -> [u8; 8]
+fn item_bytes(it: Item) -> [u8; SIZE]
     ensures { λ r. ⌜ r ≡ itemImage it ⌝ }
 {
     let row = it.row;

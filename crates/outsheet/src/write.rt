@@ -21,7 +21,14 @@ const CLOSE: u8 = 2;
 
 const HAND_ON: u8 = 3;
 
-// The bytes of a farm's record.
+// The bytes before an entry's own; before the first offset there are as many.
+const HEAD: usize = 4;
+
+// The bytes of a message before its user data, of an identity, and of the farm's record that it is made from.
+const MESSAGE: usize = 12;
+
+const IDENTITY: usize = 40;
+
 const RECORD: usize = 33;
 
 // The four bytes before an entry's own.
@@ -40,8 +47,8 @@ fn put_bytes(out: &mut [u8], at: usize, row: RowNo, kind: u8, bytes: &[u8]) -> u
 {
     let n = bytes.len();
     put_head(out, at, row, kind, n);
-    octets::put(out, at + 4, bytes);
-    at + (4 + n)
+    octets::put(out, at + HEAD, bytes);
+    at + (HEAD + n)
 }
 
 // An entry that sends a controller's message.
@@ -57,10 +64,10 @@ fn put_message(
     requires { ⌜ Fits (entry (row .0) send (messageBytes version controller tester (now user))) at (length (now out)) ⌝ }
     ensures { λ r. ⌜ Entered (entry (row .0) send (messageBytes version controller tester (now (user .entry)))) (now (out .entry)) (now (out .exit)) at r ⌝ }
 {
-    let n = 12 + user.len();
+    let n = MESSAGE + user.len();
     put_head(out, at, row, SEND, n);
-    layout::put_message(out, at + 4, version, controller, tester, user);
-    at + (4 + n)
+    layout::put_message(out, at + HEAD, version, controller, tester, user);
+    at + (HEAD + n)
 }
 
 // An entry that sends the identity of the farm with this record, or nothing where it is no record.
@@ -69,12 +76,12 @@ fn put_identity(out: &mut [u8], at: usize, row: RowNo, version: u8, farm: &[u8])
     ensures { λ r. ⌜ Entered (entry (row .0) send (identityOf version (now (farm .entry)))) (now (out .entry)) (now (out .exit)) at r ⌝ }
 {
     if farm.len() == RECORD {
-        put_head(out, at, row, SEND, 40);
-        layout::put_identity(out, at + 4, version, farm);
-        at + 44
+        put_head(out, at, row, SEND, IDENTITY);
+        layout::put_identity(out, at + HEAD, version, farm);
+        at + (HEAD + IDENTITY)
     } else {
         put_head(out, at, row, SEND, 0);
-        at + 4
+        at + HEAD
     }
 }
 
@@ -128,10 +135,10 @@ fn put_entries(out: &mut [u8], p: &[u8], long: &[u8]) -> usize
     ensures { λ r. ⌜ Laid (entriesOf (now (long .entry)) (itemsOf (now (p .entry)))) (now (out .entry)) (now (out .exit)) r ⌝ }
 {
     let n = crate::plan::count(p);
-    let mut at = 4 + 2 * n;
+    let mut at = HEAD + 2 * n;
     let mut i = 0;
     while i < n {
-        octets::write16(out, 4 + 2 * i, at as u16);
+        octets::write16(out, HEAD + 2 * i, at as u16);
         let it = crate::plan::item_at(p, i);
         at = put_entry(out, at, it, long);
         i += 1;

@@ -1,12 +1,11 @@
+-- `plan::count` meets its contract: the first byte is the number of items.
+-- Assumes nothing.
 use mathlib.Core.Path.{sym, _∙_}
 use denote.Ref.{now}
 use Rattle.outsheet.proofs.PlanLaws.{count-items}
 use borrow.Author.Needs.{needs}
 use Rattle.outsheet.proofs.plan.count.Statement.{statement}
 use Rattle.outsheet.proofs.plan.count.Tie as tie
-use Rattle.outsheet.proofs.plan.count.Reads as reads
-use Rattle.outsheet.proofs.plan.count.Lts as lts
-use Rattle.octets.proofs.wide.Reads as wide-reads
 
 shared-slice-read-wide : tie.Need-shared-slice-read-wide
 shared-slice-read-wide c = search needs

@@ -1,3 +1,5 @@
+-- `plan::item_at` meets its contract: the bytes that it reads are those of the item's part.
+-- Assumes nothing.
 use mathlib.Core.Path.{_≡_, refl, ap, _∙_}
 use mathlib.Core.List.{List}
 use Prim.Native.Nat.{ℕ, _+_, _*_, _≤_}
@@ -10,10 +12,6 @@ use Rattle.outsheet.proofs.PlanLaws.{count-items, item-read}
 use borrow.Author.Needs.{needs}
 use Rattle.outsheet.proofs.plan.item_at.Statement.{statement}
 use Rattle.outsheet.proofs.plan.item_at.Tie as tie
-use Rattle.outsheet.proofs.plan.item_at.Reads as reads
-use Rattle.outsheet.proofs.plan.item_at.Lts as lts
-use Rattle.octets.proofs.read16.Reads as read16-reads
-use Rattle.outsheet.proofs.plan.reply_from.Reads as reply-from-reads
 
 -- the item stands within the plan
 inside : (s : tie.Start) → (1 + s .args .i * itemSize + itemSize ≤ planSize) × (length (now (s .args .p)) ≡ planSize)

@@ -1,3 +1,5 @@
+-- `plan::item_bytes` meets its contract, one line for each kind of reply.
+-- Assumes nothing.
 use mathlib.Core.Path.{_≡_, sym, ap, _∙_}
 use mathlib.Core.List.{List, _∷_}
 use Prim.Native.Nat.{ℕ, _*_}
@@ -8,10 +10,6 @@ use Rattle.outsheet.specs.Plan.{said, replyImage, itemImage}
 use borrow.Author.Needs.{needs}
 use Rattle.outsheet.proofs.plan.item_bytes.Statement.{statement}
 use Rattle.outsheet.proofs.plan.item_bytes.Tie as tie
-use Rattle.outsheet.proofs.plan.item_bytes.Reads as reads
-use Rattle.outsheet.proofs.plan.item_bytes.Lts as lts
-use Rattle.outsheet.proofs.plan.laid.Reads as laid-reads
-use Rattle.outsheet.proofs.plan.upper.Reads as upper-reads
 
 -- an arm that lays out its reply lays out the item
 image-of : (it : Item) (r : Reply) (s : List ℕ) → it .reply ≡ r → s ≡ it .row .0 ∷ it .version ∷ replyImage r → s ≡ itemImage it

@@ -1,3 +1,5 @@
+-- `plan::push` meets its contract: an item behind the others and a count one higher, or a full plan.
+-- Assumes nothing.
 use mathlib.Core.Path.{refl, ap, _∙_}
 use mathlib.Core.List.{List}
 use Prim.Native.Nat.{ℕ, _+_, _*_}
@@ -9,11 +11,6 @@ use Rattle.outsheet.proofs.PlanLaws.{push-full, push-more}
 use borrow.Author.Needs.{needs}
 use Rattle.outsheet.proofs.plan.push.Statement.{statement}
 use Rattle.outsheet.proofs.plan.push.Tie as tie
-use Rattle.outsheet.proofs.plan.push.Reads as reads
-use Rattle.outsheet.proofs.plan.push.Lts as lts
-use Rattle.octets.proofs.put.Reads as put-reads
-use Rattle.octets.proofs.wide.Reads as wide-reads
-use Rattle.outsheet.proofs.plan.item_bytes.Reads as item-bytes-reads
 
 slice-read-n : tie.Need-slice-read-n
 slice-read-n c = search needs

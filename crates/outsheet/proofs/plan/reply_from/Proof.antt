@@ -1,10 +1,10 @@
+-- `plan::reply_from` meets its contract: each arm is the first tag that fits.
+-- Assumes nothing.
 use Prim.Native.Nat.{ℕ}
 use borrow.Author.Tests.{ne-eqb}
 use borrow.Author.Needs.{needs}
 use Rattle.outsheet.proofs.plan.reply_from.Statement.{statement}
 use Rattle.outsheet.proofs.plan.reply_from.Tie as tie
-use Rattle.outsheet.proofs.plan.reply_from.Reads as reads
-use Rattle.outsheet.proofs.plan.reply_from.Lts as lts
 
 cast-t7 : tie.Need-cast-t7
 cast-t7 c = search needs

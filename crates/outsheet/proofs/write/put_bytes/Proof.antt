@@ -1,13 +1,11 @@
-use mathlib.Core.Path.{_≡_, refl, sym, ap, _∙_}
+-- `write::put_bytes` meets its contract: the head, then the bytes.
+-- Assumes nothing.
+use mathlib.Core.Path.{refl}
 use denote.Ref.{now}
 use Rattle.outsheet.proofs.SheetLaws.{entered}
 use borrow.Author.Needs.{needs}
 use Rattle.outsheet.proofs.write.put_bytes.Statement.{statement}
 use Rattle.outsheet.proofs.write.put_bytes.Tie as tie
-use Rattle.outsheet.proofs.write.put_bytes.Reads as reads
-use Rattle.outsheet.proofs.write.put_bytes.Lts as lts
-use Rattle.octets.proofs.put.Reads as put-reads
-use Rattle.outsheet.proofs.write.put_head.Reads as put-head-reads
 
 put-head-requires : tie.Need-put-head-requires
 put-head-requires c κs = search needs

@@ -1,3 +1,5 @@
+-- `write::put_entries` meets its contract: a turn of the loop adds an offset and an entry (`SheetLaws.turn`).
+-- Assumes nothing.
 use mathlib.Core.Path.{_≡_, refl, sym, ap, _∙_}
 use mathlib.Core.List.{List}
 use Prim.Native.Nat.{ℕ, _+_, _*_, _-_, _≤_, _<_}
@@ -9,18 +11,12 @@ use Rattle.octets.specs.Put.{putAt}
 use Rattle.kinds.specs.declared.Item.{Item}
 use Rattle.outsheet.specs.Sheet.{Entry, entryBytes}
 use Rattle.outsheet.specs.Replies.{entryOf, entriesOf}
-use Rattle.outsheet.specs.Plan.{planRoom, itemsOf, noItem}
+use Rattle.outsheet.specs.Plan.{itemsOf, noItem}
 use Rattle.outsheet.specs.Contracts.{leastOutput}
-use Rattle.outsheet.proofs.PlanLaws.{count-items}
+use Rattle.outsheet.proofs.PlanLaws.{items-few}
 use Rattle.outsheet.proofs.SheetLaws.{placeOf, laidUpTo, none-laid, first-place, all-laid, next-place, turn-fits, entry-fits, turn}
 use Rattle.outsheet.proofs.write.put_entries.Statement.{statement}
 use Rattle.outsheet.proofs.write.put_entries.Tie as tie
-use Rattle.outsheet.proofs.write.put_entries.Reads as reads
-use Rattle.outsheet.proofs.write.put_entries.Lts as lts
-use Rattle.octets.proofs.write16.Reads as write16-reads
-use Rattle.outsheet.proofs.plan.count.Reads as count-reads
-use Rattle.outsheet.proofs.plan.item_at.Reads as item-at-reads
-use Rattle.outsheet.proofs.write.put_entry.Reads as put-entry-reads
 
 abbrev Inv-loop : tie.InvT-loop
 Inv-loop out₀ p long n at₀ i₀ out at i =
@@ -36,9 +32,6 @@ entries s = entriesOf (now (s .args .long)) (itemsOf (now (s .args .p)))
 -- what stands past the last entry
 abbrev past : tie.Start Inv-loop μ-loop → Entry
 past s = entryOf (now (s .args .long)) noItem
-
-few : (s : tie.Start Inv-loop μ-loop) → length (itemsOf (now (s .args .p))) ≤ planRoom
-few s = omega (arith, count-items (now (s .args .p)), s .pre .ok .few)
 
 -- the entry that the item at i says
 told : (s : tie.Start Inv-loop μ-loop) (i : ℕ) (it : Item) → it ≡ getD (itemsOf (now (s .args .p))) i noItem
@@ -57,10 +50,10 @@ count-requires : tie.Need-count-requires Inv-loop μ-loop
 count-requires c κs = c .before .before .before .pre .ok
 
 mul-at : tie.Need-mul-at Inv-loop μ-loop
-mul-at c = omega (arith, few (c .before .before .before .before), c .count .ensures)
+mul-at c = omega (arith, items-few _ (c .before .before .before .before .pre .ok), c .count .ensures)
 
 add-at : tie.Need-add-at Inv-loop μ-loop
-add-at c = omega (arith, few (c .before .before .before .before), c .count .ensures)
+add-at c = omega (arith, items-few _ (c .before .before .before .before .pre .ok), c .count .ensures)
 
 loop-holds : tie.Need-loop-holds Inv-loop μ-loop
 loop-holds c =

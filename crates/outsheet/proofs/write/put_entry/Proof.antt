@@ -1,3 +1,5 @@
+-- `write::put_entry` meets its contract: each arm writes the bytes of its reply (`ArmLaws`).
+-- Assumes nothing.
 use mathlib.Core.Path.{refl}
 use lib.ListN.{length}
 use denote.Ref.{now}
@@ -5,18 +7,6 @@ use Rattle.outsheet.proofs.ArmLaws.{arm-fits, arm}
 use borrow.Author.Needs.{needs}
 use Rattle.outsheet.proofs.write.put_entry.Statement.{statement}
 use Rattle.outsheet.proofs.write.put_entry.Tie as tie
-use Rattle.outsheet.proofs.write.put_entry.Reads as reads
-use Rattle.outsheet.proofs.write.put_entry.Lts as lts
-use Rattle.layout.proofs.ack.Reads as ack-reads
-use Rattle.layout.proofs.activation.Reads as activation-reads
-use Rattle.layout.proofs.alive_check.Reads as alive-check-reads
-use Rattle.layout.proofs.diagnostic_nack.Reads as diagnostic-nack-reads
-use Rattle.layout.proofs.nack.Reads as nack-reads
-use Rattle.layout.proofs.power_mode.Reads as power-mode-reads
-use Rattle.layout.proofs.status.Reads as status-reads
-use Rattle.outsheet.proofs.write.put_bytes.Reads as put-bytes-reads
-use Rattle.outsheet.proofs.write.put_identity.Reads as put-identity-reads
-use Rattle.outsheet.proofs.write.put_message.Reads as put-message-reads
 
 enum-known-what : tie.Need-enum-known-what
 enum-known-what c = search needs

@@ -1,10 +1,9 @@
-use mathlib.Core.Path.{_≡_, refl, sym, ap, _∙_}
-use mathlib.Core.List.{List, [], _∷_, _++_}
-use Prim.Native.Nat.{ℕ, _+_, _*_, _-_, _≤_, _<_}
+-- `write::put_identity` meets its contract, with a record lent and without.
+-- Assumes nothing.
+use mathlib.Core.Path.{_≡_, refl, sym}
 use native.Mathlib.Omega.{arith}
 use lib.ListN.{length}
 use denote.Ref.{now}
-use lib.Dec.{eqb}
 use borrow.Author.Tests.{eq-eqb, ne-eqb}
 use Rattle.layout.specs.Layout.{identityBytes}
 use Rattle.layout.proofs.IdentityLaws.{length-identity}
@@ -15,10 +14,6 @@ use Rattle.outsheet.proofs.SheetLaws.{entered}
 use borrow.Author.Needs.{needs}
 use Rattle.outsheet.proofs.write.put_identity.Statement.{statement}
 use Rattle.outsheet.proofs.write.put_identity.Tie as tie
-use Rattle.outsheet.proofs.write.put_identity.Reads as reads
-use Rattle.outsheet.proofs.write.put_identity.Lts as lts
-use Rattle.layout.proofs.put_identity.Reads as put-identity-reads
-use Rattle.outsheet.proofs.write.put_head.Reads as put-head-reads
 
 -- what is asked for, where a record is lent
 fits : (s : tie.Start) → let a = s .args in length (now (a .farm)) ≡ recordSize
@@ -40,11 +35,14 @@ put-identity-requires c κs =
 add-result : tie.Need-add-result
 add-result c = search needs
 
+add-result-2 : tie.Need-add-result-2
+add-result-2 c = search needs
+
 put-head-requires-2 : tie.Need-put-head-requires-2
 put-head-requires-2 c κs = search needs
 
-add-result-2 : tie.Need-add-result-2
-add-result-2 c = search needs
+add-result-3 : tie.Need-add-result-3
+add-result-3 c = search needs
 
 same-length : tie.Need-same-length
 same-length c = search needs
@@ -75,8 +73,9 @@ put-identity-spec =
     add-put-identity
     put-identity-requires
     add-result
-    put-head-requires-2
     add-result-2
+    put-head-requires-2
+    add-result-3
     same-length
     returns
     same-length-2

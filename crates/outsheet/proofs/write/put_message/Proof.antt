@@ -1,5 +1,7 @@
-use mathlib.Core.Path.{_≡_, refl, sym, ap, _∙_}
-use Prim.Native.Nat.{ℕ, _+_, _*_, _-_, _≤_, _<_}
+-- `write::put_message` meets its contract: the head with the message's length, then the message.
+-- Assumes nothing.
+use mathlib.Core.Path.{_≡_, refl, sym}
+use Prim.Native.Nat.{_+_}
 use native.Mathlib.Omega.{arith}
 use lib.ListN.{length}
 use denote.Ref.{now}
@@ -9,10 +11,6 @@ use Rattle.outsheet.proofs.SheetLaws.{entered}
 use borrow.Author.Needs.{needs}
 use Rattle.outsheet.proofs.write.put_message.Statement.{statement}
 use Rattle.outsheet.proofs.write.put_message.Tie as tie
-use Rattle.outsheet.proofs.write.put_message.Reads as reads
-use Rattle.outsheet.proofs.write.put_message.Lts as lts
-use Rattle.layout.proofs.put_message.Reads as put-message-reads
-use Rattle.outsheet.proofs.write.put_head.Reads as put-head-reads
 
 long : (s : tie.Start) → let a = s .args in length (messageBytes (a .version) (a .controller) (a .tester) (now (a .user))) ≡ 12 + length (now (a .user))
 long s = let a = s .args in length-message (a .version) (a .controller) (a .tester) (now (a .user))

@@ -1,6 +1,8 @@
-use mathlib.Core.Path.{_≡_, refl, sym, ap, _∙_}
-use mathlib.Core.List.{List, [], _∷_, _++_}
-use Prim.Native.Nat.{ℕ, _+_, _*_, _-_, _≤_, _<_}
+-- `write::write_sheet` meets its contract: the head before the offsets and entries makes the sheet.
+-- Assumes nothing.
+use mathlib.Core.Path.{_≡_, sym, ap, _∙_}
+use mathlib.Core.List.{_++_}
+use Prim.Native.Nat.{ℕ}
 use native.Mathlib.Omega.{arith}
 use lib.ListN.{length, length-map}
 use denote.Ref.{now}
@@ -8,16 +10,11 @@ use Rattle.octets.specs.Numbers.{be16}
 use Rattle.octets.specs.Put.{putAt}
 use Rattle.outsheet.specs.Replies.{entryOf, entriesOf}
 use Rattle.outsheet.specs.Plan.{itemsOf}
-use Rattle.outsheet.proofs.PlanLaws.{count-items}
+use Rattle.outsheet.proofs.PlanLaws.{items-few}
 use Rattle.outsheet.proofs.SheetLaws.{wrote-sheet}
 use borrow.Author.Needs.{needs}
 use Rattle.outsheet.proofs.write.write_sheet.Statement.{statement}
 use Rattle.outsheet.proofs.write.write_sheet.Tie as tie
-use Rattle.outsheet.proofs.write.write_sheet.Reads as reads
-use Rattle.outsheet.proofs.write.write_sheet.Lts as lts
-use Rattle.octets.proofs.put.Reads as put-reads
-use Rattle.outsheet.proofs.plan.count.Reads as count-reads
-use Rattle.outsheet.proofs.write.put_entries.Reads as put-entries-reads
 
 count-requires : tie.Need-count-requires
 count-requires c κs = search needs
@@ -26,7 +23,7 @@ put-entries-requires : tie.Need-put-entries-requires
 put-entries-requires c κs = search needs
 
 cast-t10 : tie.Need-cast-t10
-cast-t10 c = let s = c .before .before .before .before .before .before .before .before in omega (arith, c .before .before .before .before .count .ensures, count-items (now (s .args .p)), s .pre .ok .few)
+cast-t10 c = let s = c .before .before .before .before .before .before .before .before in omega (arith, c .before .before .before .before .count .ensures, items-few (now (s .args .p)) (s .pre .ok))
 
 cast-t12 : tie.Need-cast-t12
 cast-t12 c = search needs
