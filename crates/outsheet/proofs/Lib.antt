@@ -1,0 +1,6 @@
+pub mod PlanLaws
+pub mod SwapLaws
+pub mod SheetLaws
+pub mod ArmLaws
+pub mod RoomLaws
+pub mod Examples

@@ -1,0 +1,4 @@
+pub mod Sheet
+pub mod Replies
+pub mod Plan
+pub mod Contracts
