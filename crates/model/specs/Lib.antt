@@ -1,0 +1,11 @@
+pub mod FarmSheet
+pub mod Row
+pub mod Stream
+pub mod Farm
+pub mod Line
+pub mod Bytes
+pub mod Move
+pub mod Rule
+pub mod RuleTest
+pub mod Table
+pub mod History
