@@ -1,1 +1,5 @@
+pub mod Cases
+pub mod Rows
+pub mod Seats
+pub mod Split
 pub mod Try

@@ -1,6 +1,6 @@
 -- "A table breaks the rules if: ..": rule 4 for one farm, a field for each rule.
 -- Assumes nothing: these are definitions.
-use Prim.Native.Nat.{ℕ, _+_, _≤_, _<_}
+use Prim.Native.Nat.{ℕ, _≤_, _<_}
 use mathlib.Core.Path.{_≡_}
 use mathlib.Core.Bool.{Bool, true, false}
 use mathlib.Core.Logic.{_⊎_}
@@ -8,7 +8,7 @@ use mathlib.Core.List.{List, [], _∷_}
 use lib.Dec.{eqb}
 use lib.ListN.{length}
 use Prim.{Unit}
-use Rattle.octets.specs.Choice.{pick}
+use Rattle.octets.specs.Choice.{one}
 use Rattle.octets.specs.Search.{countIf}
 use Rattle.kinds.specs.declared.Clock.{Clock}
 use Rattle.kinds.specs.declared.Request.{Request}
@@ -27,13 +27,8 @@ use Rattle.model.specs.Farm.{Farm, seatCount}
 use Rattle.model.specs.Line.{isMarked, isAsked, headVerdict}
 
 -- how often a seat stands in the line
-abbrev pub one : Bool → ℕ
-one true = 1
-one false = 0
-
 abbrev pub times : ℕ → List ℕ → ℕ
-times i [] = 0
-times i (x ∷ l) = one (eqb i x) + times i l
+times i line = countIf (eqb i) line
 
 -- "a stream place is impossible: eight header bytes or more still unjudged, a payload already complete, a payload being read whose
 -- header would be judged wrong, or one being skipped whose header would not get NACK 01 or 02"

@@ -5,7 +5,7 @@ use mathlib.Core.Bool.{Bool, true, false, not}
 use mathlib.Core.List.{List, [], _∷_}
 use lib.Dec.{eqb, leb, ltb}
 use lib.ListN.{length}
-use Rattle.octets.specs.Choice.{both, either}
+use Rattle.octets.specs.Choice.{both, either, one}
 use Rattle.octets.specs.Fold.{upTo}
 use Rattle.octets.specs.Search.{countIf, all}
 use Rattle.kinds.specs.declared.Fault.{Fault}
@@ -24,7 +24,7 @@ use Rattle.model.specs.FarmSheet.{FarmSheet, slotSheet}
 use Rattle.model.specs.Row.{checkLimit, rowAt, isOpen, isWaiting, isActive, activeAs, atLimit}
 use Rattle.model.specs.Farm.{Farm, seatCount}
 use Rattle.model.specs.Line.{isMarked, isAsked, headVerdict}
-use Rattle.model.specs.Rule.{one, times}
+use Rattle.model.specs.Rule.{times}
 
 -- the test holds of each seat
 unfoldable pub everySeat : (ℕ → Bool) → Bool

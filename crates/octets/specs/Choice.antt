@@ -1,5 +1,6 @@
 -- Choosing by a test, and tests made of tests.
 -- Assumes nothing: these are definitions.
+use Prim.Native.Nat.{ℕ}
 use mathlib.Core.Bool.{Bool, true, false}
 
 -- the first where the test holds, else the second
@@ -19,3 +20,8 @@ either false b = b
 abbrev pub unless : {A : Type 0} → Bool → A → A → A
 unless true a b = b
 unless false a b = a
+
+-- a test as a number, for counting
+abbrev pub one : Bool → ℕ
+one true = 1
+one false = 0

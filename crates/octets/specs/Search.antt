@@ -6,7 +6,7 @@ use mathlib.Core.List.{List, [], _∷_}
 use lib.Dec.{eqb}
 use Rattle.octets.specs.declared.Found.{Found}
 use Rattle.octets.specs.declared.Found.the-variants.{At, Nothing}
-use Rattle.octets.specs.Choice.{pick, both, either}
+use Rattle.octets.specs.Choice.{pick, both, either, one}
 
 -- the place of the first, the list's own first having the place k
 unfoldable pub firstAt : {A : Type 0} → (A → Bool) → ℕ → List A → Found
@@ -15,7 +15,7 @@ firstAt p k (x ∷ l) = pick (p x) (At k) (firstAt p (suc k) l)
 
 unfoldable pub countIf : {A : Type 0} → (A → Bool) → List A → ℕ
 countIf p [] = 0
-countIf p (x ∷ l) = pick (p x) 1 0 + countIf p l
+countIf p (x ∷ l) = one (p x) + countIf p l
 
 unfoldable pub some : {A : Type 0} → (A → Bool) → List A → Bool
 some p [] = false
