@@ -1,0 +1,114 @@
+-- The words of demand 3's bound: a request that must wait, its place in the line, accepted ticks, cuts, answers.
+-- Assumes nothing: these are definitions.
+use Prim.Native.Nat.{ℕ, zero, suc, _+_, _≤_}
+use mathlib.Core.Path.{_≡_}
+use mathlib.Core.Bool.{Bool, true, false}
+use mathlib.Core.List.{List, [], _∷_, _++_, List·Memᴰ}
+use lib.Dec.{eqb}
+use lib.ListN.{getD, take}
+use Rattle.octets.specs.Choice.{both, either, one}
+use Rattle.kinds.specs.declared.Item.{Item}
+use Rattle.kinds.specs.declared.Reply.the-variants.{Activation}
+use Rattle.kinds.specs.declared.Check.{Check}
+use Rattle.kinds.specs.declared.Decision.the-variants.{Now, Ask}
+use Rattle.wire.specs.Header.{ourVersion}
+use Rattle.wire.specs.Payload.{requestIn}
+use Rattle.sheet.specs.declared.rows.Owner.the-variants.{Seat}
+use Rattle.sheet.specs.Sheet.{farmNo}
+use Rattle.sheet.specs.Rows.{ownerOf}
+use Rattle.model.specs.FarmSheet.{FarmSheet, slotSheet}
+use Rattle.model.specs.Row.{checkLimit, rowAt, wanted}
+use Rattle.model.specs.Stream.{finished, Taken}
+use Rattle.model.specs.Farm.{Farm}
+use Rattle.model.specs.Line.{accepted, socketRules, decide, allAnswered, refusalOf}
+use Rattle.model.specs.Bytes.{takenBy}
+use Rattle.model.specs.Move.{Held}
+use Rattle.model.specs.Table.{Table, slot, Call, connectTo, bytesFrom, peerClosedOn, linkLostOf, tick, datagramTo, messageFrom, numberOf, itemsOf, tableOf}
+use Rattle.model.specs.History.{Made, stepOf}
+
+-- the seat stands in the line with k others before it: "the head being place 1", that is place k + 1
+pub data Stands (seat : ℕ) : List ℕ → ℕ → Type 0 where
+  first : {x : ℕ} {l : List ℕ} → seat ≡ x → Stands seat (x ∷ l) zero
+  behind : {x : ℕ} {l : List ℕ} {k : ℕ} → Stands seat l k → Stands seat (x ∷ l) (suc k)
+
+-- a response 0006 to this row is among the entries
+pub data Answered (row : ℕ) (items : List Item) : Type 0 where
+  answers : (address entity code : ℕ)
+      → List·Memᴰ (record { row = record { 0 = row }; version = ourVersion; reply = Activation address entity code }) items → Answered row items
+
+-- the call was done, not refused
+abbrev pub isDone : List ℕ → Table → Made → Bool
+isDone s t m = eqb (numberOf (stepOf s t m)) 0
+
+-- ---- "a readable activation request that must wait for an alive check"
+
+abbrev pub takenOf : Held → ℕ → List ℕ → Taken
+takenOf h seat input = takenBy seat (getD (h .rooms) seat []) input (h .farm)
+
+-- with this call, which is done, the row gives the last byte of a whole 0005, and the rules, looking at its farm as it is then, say that
+-- a check comes first
+pub record MustWait (s : List ℕ) (t : Table) (m : Made) (row farm seat : ℕ) : Type 0 where
+  pub input : List ℕ
+  pub size : ℕ
+  pub check : Check
+  pub bytesOf : m .call ≡ bytesFrom row input
+  pub done : isDone s t m ≡ true
+  pub owner : ownerOf s row ≡ Seat (farmNo farm) seat
+  pub whole : takenOf (slot t farm) seat input .event ≡ finished 0x0005 size
+  pub waits : decide (slotSheet s farm) (slot t farm .farm .rows) seat (requestIn (take size (takenOf (slot t farm) seat input .stream .room))) ≡ Ask check
+
+-- ---- along a history, from a table on
+
+abbrev pub isTick : Call → Bool
+isTick (connectTo f) = false
+isTick (bytesFrom r input) = false
+isTick (peerClosedOn r) = false
+isTick (linkLostOf f) = false
+isTick tick = true
+isTick (datagramTo f input) = false
+isTick (messageFrom f from to user) = false
+
+-- "the accepted clock tick"
+abbrev pub acceptedTick : List ℕ → Table → Made → Bool
+acceptedTick s t m = both (isTick (m .call)) (isDone s t m)
+
+unfoldable pub ticksIn : List ℕ → Table → List Made → ℕ
+ticksIn s t [] = 0
+ticksIn s t (m ∷ ms) = one (acceptedTick s t m) + ticksIn s (tableOf t (stepOf s t m)) ms
+
+-- "its own connection or its farm's link is lost"
+abbrev pub isLoss : ℕ → ℕ → Call → Bool
+isLoss row farm (connectTo f) = false
+isLoss row farm (bytesFrom r input) = false
+isLoss row farm (peerClosedOn r) = eqb r row
+isLoss row farm (linkLostOf f) = eqb f farm
+isLoss row farm tick = false
+isLoss row farm (datagramTo f input) = false
+isLoss row farm (messageFrom f from to user) = false
+
+-- a refused call loses nothing
+abbrev pub cuts : ℕ → ℕ → List ℕ → Table → Made → Bool
+cuts row farm s t m = both (isLoss row farm (m .call)) (isDone s t m)
+
+-- some call of the history does so
+unfoldable pub cutIn : ℕ → ℕ → List ℕ → Table → List Made → Bool
+cutIn row farm s t [] = false
+cutIn row farm s t (m ∷ ms) = either (cuts row farm s t m) (cutIn row farm s (tableOf t (stepOf s t m)) ms)
+
+-- all entries of its calls, in their order
+unfoldable pub entriesIn : List ℕ → Table → List Made → List Item
+entriesIn s t [] = []
+entriesIn s t (m ∷ ms) = itemsOf (stepOf s t m) ++ entriesIn s (tableOf t (stepOf s t m)) ms
+
+-- ---- "The answer is the one the rules give at the moment of deciding."
+
+-- why the head of this farm's line has this code, as the farm is now
+pub data Because (own : FarmSheet) (f : Farm) (head : ℕ) : ℕ → Type 0 where
+  -- "if it needs no check, it has its answer"
+  needsNone : {code : ℕ} → socketRules own (f .rows) (wanted (rowAt (f .rows) head)) ≡ Now code → Because own f head code
+  -- "If all asked rows answered: 03 (check of that row) or 01 (check of all)."
+  allDid : {check : Check} → socketRules own (f .rows) (wanted (rowAt (f .rows) head)) ≡ Ask check
+      → allAnswered check (f .marks) (f .rows) ≡ true → Because own f head (refusalOf check)
+  -- "If the clock is 50: unanswered asked rows close, then 10."
+  ranOut : {check : Check} → socketRules own (f .rows) (wanted (rowAt (f .rows) head)) ≡ Ask check
+      → allAnswered check (f .marks) (f .rows) ≡ false → checkLimit ≤ f .clock .ticks → Because own f head accepted
