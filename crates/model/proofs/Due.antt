@@ -102,6 +102,17 @@ advanced-fresh own (head ∷ rest) f =
     asking-keeps own (Fresh own (head ∷ rest)) (socketRules own (f .rows) (wanted (rowAt (f .rows) head))) (cleared (withLine f (head ∷ rest)))
     (record { line = refl; clock = refl })
 
+pub advanced-near : (own : FarmSheet) (seat n : ℕ) (rest : List ℕ) (f : Farm) (j : ℕ) → Stands seat rest j → checkLimit * suc j ≤ n
+    → Near seat n (advanced own rest f .farm)
+advanced-near own seat n rest f j b w =
+    let r : Fresh own rest (advanced own rest f .farm) = advanced-fresh own rest f in
+    record {
+      place = j;
+      at = subst (λ (x : List ℕ). Stands seat x j) (sym (r .line)) b;
+      runs = omega (arith, r .clock);
+      within = omega (arith, r .clock, mul-suc checkLimit j);
+    }
+
 -- ---- settling
 
 -- what the head's verdict leaves room for
@@ -134,20 +145,8 @@ front own seat n head rest d next zero (first e) w a ih =
     (more-left (next (advanced own rest (d .farm) .farm) .items)
     (more-left (advanced own rest (d .farm) .items) (subst (λ (x : ℕ). Answered (own .first + x) (d .items)) (sym e) a)))
 front own seat n head rest d next (suc j) (behind b) w a ih =
-    let g : Farm = advanced own rest (d .farm) .farm in
-    let r : Fresh own rest g = advanced-fresh own rest (d .farm) in
     then-after {P = Lined seat n rest} (andThen d (advanced own rest)) next
-    (waits
-    (record {
-      isLine = r .line;
-      near =
-        record {
-          place = j;
-          at = subst (λ (x : List ℕ). Stands seat x j) (sym (r .line)) b;
-          runs = omega (arith, r .clock);
-          within = omega (arith, r .clock, mul-suc checkLimit j);
-        };
-    }))
+    (waits (record { isLine = advanced-fresh own rest (d .farm) .line; near = advanced-near own seat n rest (d .farm) j b w }))
     ih
 
 serve-due : (own : FarmSheet) (seat n head : ℕ) (rest : List ℕ) (f : Farm) (v : HeadVerdict) (next : Farm → Done) → f .line ≡ head ∷ rest

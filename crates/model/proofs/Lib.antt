@@ -4,4 +4,5 @@ pub mod Seats
 pub mod Split
 pub mod Rank
 pub mod Due
+pub mod DueCalls
 pub mod Try
