@@ -5,4 +5,5 @@ pub mod Split
 pub mod Rank
 pub mod Due
 pub mod DueCalls
+pub mod DueTable
 pub mod Try
