@@ -84,9 +84,9 @@ answer-in own seat address code f =
 -- ---- the next head
 
 -- the check of a new head starts: whatever the farm was, the line is the rest and the clock is 0
-record Fresh (own : FarmSheet) (rest : List ℕ) (f : Farm) : Type 0 where
-  line : f .line ≡ rest
-  clock : f .clock .ticks ≡ 0
+pub record Anew (rest : List ℕ) (f : Farm) : Type 0 where
+  pub line : f .line ≡ rest
+  pub clock : f .clock .ticks ≡ 0
 
 asking-keeps : (own : FarmSheet) (P : Farm → Type 0) (d : Decision) (f : Farm) → P f → P (asking own d f .farm)
 unfolding askedIf
@@ -95,17 +95,17 @@ asking-keeps own P (Ask check) f p =
     each-keeps (askedIf own check) f P p
     (λ i x q. pick-case (λ (e : Done). P (e .farm)) (asks check i (rowAt (x .rows) i)) (does x (says own i AliveCheck ∷ [])) (quietly x) (λ e. q) (λ e. q))
 
-advanced-fresh : (own : FarmSheet) (rest : List ℕ) (f : Farm) → Fresh own rest (advanced own rest f .farm)
+pub advanced-anew : (own : FarmSheet) (rest : List ℕ) (f : Farm) → Anew rest (advanced own rest f .farm)
 unfolding advanced started
-advanced-fresh own [] f = record { line = refl; clock = refl }
-advanced-fresh own (head ∷ rest) f =
-    asking-keeps own (Fresh own (head ∷ rest)) (socketRules own (f .rows) (wanted (rowAt (f .rows) head))) (cleared (withLine f (head ∷ rest)))
+advanced-anew own [] f = record { line = refl; clock = refl }
+advanced-anew own (head ∷ rest) f =
+    asking-keeps own (Anew (head ∷ rest)) (socketRules own (f .rows) (wanted (rowAt (f .rows) head))) (cleared (withLine f (head ∷ rest)))
     (record { line = refl; clock = refl })
 
 pub advanced-near : (own : FarmSheet) (seat n : ℕ) (rest : List ℕ) (f : Farm) (j : ℕ) → Stands seat rest j → checkLimit * suc j ≤ n
     → Near seat n (advanced own rest f .farm)
 advanced-near own seat n rest f j b w =
-    let r : Fresh own rest (advanced own rest f .farm) = advanced-fresh own rest f in
+    let r : Anew rest (advanced own rest f .farm) = advanced-anew own rest f in
     record {
       place = j;
       at = subst (λ (x : List ℕ). Stands seat x j) (sym (r .line)) b;
@@ -146,7 +146,7 @@ front own seat n head rest d next zero (first e) w a ih =
     (more-left (advanced own rest (d .farm) .items) (subst (λ (x : ℕ). Answered (own .first + x) (d .items)) (sym e) a)))
 front own seat n head rest d next (suc j) (behind b) w a ih =
     then-after {P = Lined seat n rest} (andThen d (advanced own rest)) next
-    (waits (record { isLine = advanced-fresh own rest (d .farm) .line; near = advanced-near own seat n rest (d .farm) j b w }))
+    (waits (record { isLine = advanced-anew own rest (d .farm) .line; near = advanced-near own seat n rest (d .farm) j b w }))
     ih
 
 serve-due : (own : FarmSheet) (seat n head : ℕ) (rest : List ℕ) (f : Farm) (v : HeadVerdict) (next : Farm → Done) → f .line ≡ head ∷ rest

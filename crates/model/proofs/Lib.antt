@@ -6,4 +6,5 @@ pub mod Rank
 pub mod Due
 pub mod DueCalls
 pub mod DueTable
+pub mod Join
 pub mod Try

@@ -1,0 +1,291 @@
+-- A request that must wait joins the end of its farm's line: one farm's part of it.
+-- Assumes nothing.
+use Prim.Native.Nat.{ℕ, zero, suc, _+_, _*_, _≤_, _<_}
+use mathlib.Core.Path.{_≡_, refl, sym, ap, subst, _∙_}
+use mathlib.Core.Bool.{Bool, true, false, false≢true, true≢false}
+use mathlib.Core.List.{List, [], _∷_, _++_, append-nil}
+use native.Mathlib.Nat.{mul-suc}
+use native.Mathlib.Omega.{arith}
+use lib.Dec.{eqb, leb}
+use lib.ListN.{getD, set, length, length-set, take}
+use borrow.Author.Tests.{eq-eqb}
+use Rattle.octets.specs.declared.Found.{Found}
+use Rattle.octets.specs.declared.Found.the-variants.{At, Nothing}
+use Rattle.octets.specs.Choice.{pick, unless, one}
+use Rattle.octets.specs.Search.{firstAt, countIf}
+use Rattle.octets.specs.Fold.{upTo}
+use Rattle.kinds.specs.declared.Clock.{Clock}
+use Rattle.kinds.specs.declared.Request.{Request}
+use Rattle.kinds.specs.declared.Row.{Row}
+use Rattle.kinds.specs.declared.RowState.{RowState}
+use Rattle.kinds.specs.declared.RowState.the-variants.{Free, Fresh, Waiting, Active}
+use Rattle.kinds.specs.declared.Check.{Check}
+use Rattle.kinds.specs.declared.Check.the-variants.{One, All}
+use Rattle.kinds.specs.declared.Decision.{Decision}
+use Rattle.kinds.specs.declared.Decision.the-variants.{Now, Ask}
+use Rattle.kinds.specs.declared.HeadVerdict.{HeadVerdict}
+use Rattle.kinds.specs.declared.HeadVerdict.the-variants.{Pending, Answer, RunOut}
+use Rattle.wire.specs.Payload.{requestIn}
+use Rattle.model.specs.FarmSheet.{FarmSheet}
+use Rattle.model.specs.Row.{checkLimit, rowAt, waitingRow, isOpenState, isWaitingState, isActiveState, activeAsState, isOpen, isWaiting, isActive, activeAs, wanted, heardState}
+use Rattle.model.specs.Stream.{Event, finished, Taken}
+use Rattle.model.specs.Farm.{Farm, Done, quietly, andThen, seatCount, withRow, withLine}
+use Rattle.model.specs.Line.{accepted, byHolder, byState, socketRules, decide, asks, isSilent, allAnswered, started, asking, cleared, advanced, verdictBy, headVerdict, serve, settleLine, settle, isEmpty, joined}
+use Rattle.model.specs.Bytes.{decidedBy, requested, eventDone, heard, heardRow, bytesDone}
+use Rattle.model.specs.Rule.{times, HeadKeeps, Good}
+use Rattle.model.specs.Words.{Stands, first, behind, Answered, answers}
+use Rattle.model.proofs.Cases.{pick-case, unless-case, split}
+use Rattle.model.proofs.Rows.{row-set, row-same, row-other, open-in, count-same}
+use Rattle.model.proofs.Due.{After, gone, waits, then-after, Near, Due, Anew, advanced-anew, advanced-near, settle-due}
+
+-- ---- a row that is not active, before and after a store: no rule on the line sees the difference
+
+record Idle (r : Row) : Type 0 where
+  active : isActive r ≡ false
+  address : (a : ℕ) → activeAs a r ≡ false
+
+first-set : (p : Row → Bool) (rows : List Row) (i : ℕ) (x : Row) → p x ≡ p (rowAt rows i) → (k : ℕ) → firstAt p k (set rows i x) ≡ firstAt p k rows
+unfolding firstAt
+first-set p [] i x e k = refl
+first-set p (y ∷ ys) zero x e k = rw e refl
+first-set p (y ∷ ys) (suc i) x e k = ap (pick (p y) _) (first-set p ys i x e (suc k))
+
+module _ (rows : List Row) (i : ℕ) (x : Row) (was : Idle (rowAt rows i)) (is : Idle x) where
+  idle-rules : (own : FarmSheet) (a : ℕ) → socketRules own (set rows i x) a ≡ socketRules own rows a
+  unfolding socketRules
+  idle-rules own a =
+      rw (first-set (activeAs a) rows i x (is .address a ∙ sym (was .address a)) 0) (by (firstAt (activeAs a) 0 rows))
+    where
+      by : (o : Found) → byHolder own (set rows i x) o ≡ byHolder own rows o
+      by (At s) = refl
+      by Nothing = rw (count-same isActive rows i x (is .active ∙ sym (was .active))) refl
+
+  idle-active : (k : ℕ) → isActive (rowAt (set rows i x) k) ≡ isActive (rowAt rows k)
+  idle-active k =
+      row-set rows i k x (λ y. isActive y ≡ isActive (rowAt rows k))
+      (λ e h. is .active ∙ sym (was .active) ∙ ap (λ (j : ℕ). isActive (rowAt rows j)) (sym e)) refl
+
+all-same : (b c : ℕ → Bool) → ((i : ℕ) → b i ≡ c i) → (n : ℕ) → upTo (λ i ok. pick (b i) false ok) true n ≡ upTo (λ i ok. pick (c i) false ok) true n
+unfolding upTo
+all-same b c e zero = refl
+all-same b c e (suc n) = rw (e n, all-same b c e n) refl
+
+answered-same : (check : Check) (marks : List Bool) (rows new : List Row) → ((i : ℕ) → isActive (rowAt new i) ≡ isActive (rowAt rows i))
+    → allAnswered check marks new ≡ allAnswered check marks rows
+unfolding allAnswered
+answered-same check marks rows new e =
+    all-same (λ i. isSilent check marks i (rowAt new i)) (λ i. isSilent check marks i (rowAt rows i)) (λ i. by check i) seatCount
+  where
+    by : (k : Check) (i : ℕ) → isSilent k marks i (rowAt new i) ≡ isSilent k marks i (rowAt rows i)
+    by (One s) i = refl
+    by All i = rw (e i) refl
+
+-- the head's verdict, with the same clock and marks
+verdict-same : (own : FarmSheet) (f g : Farm) (head : ℕ) → wanted (rowAt (g .rows) head) ≡ wanted (rowAt (f .rows) head)
+    → ((a : ℕ) → socketRules own (g .rows) a ≡ socketRules own (f .rows) a) → ((i : ℕ) → isActive (rowAt (g .rows) i) ≡ isActive (rowAt (f .rows) i))
+    → g .clock ≡ f .clock → g .marks ≡ f .marks → headVerdict own g head ≡ headVerdict own f head
+unfolding headVerdict
+verdict-same own f g head w s a c m =
+    rw (w, s (wanted (rowAt (f .rows) head))) (by (socketRules own (f .rows) (wanted (rowAt (f .rows) head))))
+  where
+    by : (d : Decision) → verdictBy g d ≡ verdictBy f d
+    by (Now code) = refl
+    by (Ask check) = rw (c, m, answered-same check (f .marks) (f .rows) (g .rows) a) refl
+
+-- ---- the rules for a row that is not active
+
+not-ask : {code : ℕ} {check : Check} → Now code ≡ Ask check → ⊥
+not-ask e = let z : _≡_ {A = ℕ} 0 1 = cc in omega arith
+
+state-ask : (own : FarmSheet) (rows : List Row) (a : ℕ) (check : Check) (x : RowState) → byState own rows a x ≡ Ask check
+    → (isActiveState x ≡ false) × (socketRules own rows a ≡ Ask check)
+state-ask own rows a check Free e = (refl, e)
+state-ask own rows a check (Fresh age) e = (refl, e)
+state-ask own rows a check (Waiting q) e = (refl, e)
+state-ask own rows a check (Active b idle) e =
+    pick-case (λ d. d ≡ Ask check → (true ≡ false) × (socketRules own rows a ≡ Ask check)) (eqb b a) (Now accepted) (Now 0x02)
+    (λ _ n. absurd (not-ask n)) (λ _ n. absurd (not-ask n)) e
+
+-- a request that is to wait comes from a row that is not active, and the check is that of the socket rules
+pub decide-ask : (own : FarmSheet) (rows : List Row) (i : ℕ) (q : Request) (check : Check) → decide own rows i q ≡ Ask check
+    → (isActive (rowAt rows i) ≡ false) × (socketRules own rows (q .address) ≡ Ask check)
+unfolding decide
+decide-ask own rows i q check =
+    unless-case P (own .tester (q .address)) _ _ (λ _ e. absurd (not-ask e))
+    (λ _. unless-case P (leb (q .kind) 1) _ _ (λ _ e. absurd (not-ask e)) (λ _ e. state-ask own rows (q .address) check (rowAt rows i .state) e))
+  where
+    P : Decision → Type 0
+    P d = d ≡ Ask check → (isActive (rowAt rows i) ≡ false) × (socketRules own rows (q .address) ≡ Ask check)
+
+-- of a fresh row, place and header bytes do not matter
+decide-fresh : (own : FarmSheet) (rows : List Row) (i : ℕ) (q : Request) (age : Clock) → rowAt rows i .state ≡ Fresh age
+    → decide own rows i q ≡ unless (own .tester (q .address)) (Now 0x00) (unless (leb (q .kind) 1) (Now 0x06) (socketRules own rows (q .address)))
+unfolding decide
+decide-fresh own rows i q age e = rw e refl
+
+pub stands-end : (seat : ℕ) (l : List ℕ) → Stands seat (l ++ seat ∷ []) (length l)
+stands-end seat [] = first refl
+stands-end seat (x ∷ l) = behind (stands-end seat l)
+
+-- what is needed of a check that has just started: with clock 0 and no marks it is undecided, for it asks some row
+abbrev pub Opens : Type 0
+Opens =
+    (own : FarmSheet) → 1 ≤ own .quota → (f : Farm) → length (f .rows) ≡ seatCount → (head : ℕ) (check : Check)
+    → socketRules own (f .rows) (wanted (rowAt (f .rows) head)) ≡ Ask check → headVerdict own (started own f .farm) head ≡ Pending
+
+-- ---- the call by which a fresh row gives the last byte of a request that must wait
+
+module _ (own : FarmSheet) (f : Farm) (seat : ℕ) (t : Taken) (size : ℕ) (check : Check) (age : Clock)
+    (fresh : rowAt (f .rows) seat .state ≡ Fresh age) (whole : t .event ≡ finished 0x0005 size)
+    (ask : decide own (f .rows) seat (requestIn (take size (t .stream .room))) ≡ Ask check) where
+  abbrev request : Request
+  request = requestIn (take size (t .stream .room))
+
+  abbrev after : Row
+  after = heardRow (t .count) (t .stream) (rowAt (f .rows) seat)
+
+  was : Idle (rowAt (f .rows) seat)
+  was = record { active = ap isActiveState fresh; address = λ a. ap (activeAsState a) fresh }
+
+  is : Idle after
+  is =
+      record {
+        active = ap (λ (x : RowState). isActiveState (heardState (t .count) x)) fresh;
+        address = λ a. ap (λ (x : RowState). activeAsState a (heardState (t .count) x)) fresh;
+      }
+
+  fresh-still : rowAt (set (f .rows) seat after) seat .state ≡ Fresh age
+  fresh-still =
+      row-set (f .rows) seat seat after (λ (y : Row). y .state ≡ Fresh age) (λ e h. ap (heardState (t .count)) fresh) fresh
+
+  -- the rules say the same when the bytes are taken
+  still-asks : decide own (set (f .rows) seat after) seat request ≡ Ask check
+  still-asks =
+      decide-fresh own (set (f .rows) seat after) seat request age fresh-still
+      ∙ rw (idle-rules (f .rows) seat after was is own (request .address)) (sym (decide-fresh own (f .rows) seat request age fresh))
+      ∙ ask
+
+  -- so the row joins
+  event-joins : eventDone own seat (t .event) (t .stream .room) (heard seat t f) ≡ joined own seat request (heard seat t f)
+  unfolding eventDone requested heard
+  event-joins = rw (whole, still-asks) refl
+
+  abbrev at-end : Farm
+  at-end = withRow (heard seat t f) seat (waitingRow request)
+
+  abbrev joins : Done
+  joins = joined own seat request (heard seat t f)
+
+  -- at the end of the line, it is due
+  joined-due : (n : ℕ) → f .clock .ticks < checkLimit → checkLimit * suc (length (f .line)) ≤ n → Due seat n (joins .farm)
+  unfolding joined heard advanced
+  joined-due n r w =
+      pick-case (λ (d : Done). Due seat n (d .farm)) (isEmpty (f .line)) _ _
+      (λ e. record {
+        near = advanced-near own seat n (f .line ++ seat ∷ []) at-end (length (f .line)) (stands-end seat (f .line)) w;
+        running = omega (arith, advanced-anew own (f .line ++ seat ∷ []) at-end .clock);
+      })
+      (λ e. record {
+        near =
+          record {
+            place = length (f .line);
+            at = stands-end seat (f .line);
+            runs = omega arith;
+            within = omega (arith, mul-suc checkLimit (length (f .line)));
+          };
+        running = r;
+      })
+
+  joined-line : joins .farm .line ≡ f .line ++ seat ∷ []
+  unfolding joined heard advanced
+  joined-line =
+      pick-case (λ (d : Done). d .farm .line ≡ f .line ++ seat ∷ []) (isEmpty (f .line)) _ _
+      (λ e. advanced-anew own (f .line ++ seat ∷ []) at-end .line) (λ e. refl)
+
+  -- after the whole call it is answered or due
+  pub join-due : (n : ℕ) → f .clock .ticks < checkLimit → checkLimit * suc (length (f .line)) ≤ n
+      → After (Due seat n) (own .first + seat) (bytesDone own seat t f)
+  unfolding bytesDone
+  join-due n r w =
+      rw event-joins (then-after {P = Near seat n} joins (settle own) (waits (joined-due n r w .near)) (settle-due own seat n))
+
+  -- ---- from a farm that keeps the rules, it is not answered by that call: it stands at the end of the line as it was
+
+  module _ (quota : 1 ≤ own .quota) (good : Good own f) (opens : Opens) where
+    waits-is : Idle (waitingRow request)
+    waits-is = record { active = refl; address = λ a. refl }
+
+    was-then : Idle (rowAt (set (f .rows) seat after) seat)
+    was-then = record { active = ap isActiveState fresh-still; address = λ a. ap (activeAsState a) fresh-still }
+
+    same-rules : (a : ℕ) → socketRules own (at-end .rows) a ≡ socketRules own (f .rows) a
+    unfolding heard
+    same-rules a =
+        idle-rules (set (f .rows) seat after) seat (waitingRow request) was-then waits-is own a ∙ idle-rules (f .rows) seat after was is own a
+
+    same-active : (i : ℕ) → isActive (rowAt (at-end .rows) i) ≡ isActive (rowAt (f .rows) i)
+    unfolding heard
+    same-active i =
+        idle-active (set (f .rows) seat after) seat (waitingRow request) was-then waits-is i ∙ idle-active (f .rows) seat after was is i
+
+    -- the row itself asks for its address
+    need : socketRules own (at-end .rows) (wanted (rowAt (at-end .rows) seat)) ≡ Ask check
+    unfolding heard
+    need =
+        rw (row-same (set (f .rows) seat after) seat (waitingRow request) (open-in (set (f .rows) seat after) seat (ap isOpenState fresh-still)))
+        (same-rules (request .address) ∙ decide-ask own (f .rows) seat request check ask .1)
+
+    many : length (at-end .rows) ≡ seatCount
+    unfolding heard
+    many = length-set (set (f .rows) seat after) seat (waitingRow request) ∙ length-set (f .rows) seat after ∙ good .seats
+
+    -- a head that waits is another row
+    apart : (head : ℕ) (rest : List ℕ) → f .line ≡ head ∷ rest → head ≡ seat → ⊥
+    unfolding countIf
+    apart head rest e q =
+        let w : one (isWaiting (rowAt (f .rows) head)) ≡ times head (head ∷ rest) = sym (good .lined head) ∙ ap (times head) e in
+        let n : isWaiting (rowAt (f .rows) head) ≡ false = rw q (ap isWaitingState fresh) in
+        let z : one (isWaiting (rowAt (f .rows) head)) ≡ 0 = ap one n in
+        let y : one (eqb head head) ≡ 1 = ap one (eq-eqb head head refl) in
+        omega arith
+
+    same-wanted : (head : ℕ) → (head ≡ seat → ⊥) → wanted (rowAt (at-end .rows) head) ≡ wanted (rowAt (f .rows) head)
+    unfolding heard
+    same-wanted head n =
+        ap wanted (row-other (set (f .rows) seat after) seat head (waitingRow request) n ∙ row-other (f .rows) seat head after n)
+
+    still : (x : Farm) (head : ℕ) (rest : List ℕ) → x .line ≡ head ∷ rest → headVerdict own x head ≡ Pending → settle own x ≡ quietly x
+    unfolding settleLine
+    still x head rest e p = ap (λ (l : List ℕ). settleLine own l x) e ∙ rw p refl
+
+    joins-first : f .line ≡ [] → joins ≡ advanced own (seat ∷ []) at-end
+    unfolding joined heard advanced
+    joins-first e = rw e refl
+
+    joins-behind : (head : ℕ) (rest : List ℕ) → f .line ≡ head ∷ rest → joins ≡ quietly (withLine at-end (head ∷ rest ++ seat ∷ []))
+    unfolding joined heard
+    joins-behind head rest e = rw e refl
+
+    settled : settle own (joins .farm) ≡ quietly (joins .farm)
+    unfolding advanced heard
+    settled = by (f .line) refl (good .headKeeps)
+      where
+        by : (line : List ℕ) → f .line ≡ line → HeadKeeps own f line → settle own (joins .farm) ≡ quietly (joins .farm)
+        by [] e k =
+            rw (joins-first e)
+            (still (advanced own (seat ∷ []) at-end .farm) seat [] (advanced-anew own (seat ∷ []) at-end .line)
+            (opens own quota (withLine at-end (seat ∷ [])) many seat check need))
+        by (head ∷ rest) e k =
+            let g : Farm = withLine at-end (head ∷ rest ++ seat ∷ []) in
+            rw (joins-behind head rest e)
+            (still g head (rest ++ seat ∷ []) refl
+            (verdict-same own f g head (same-wanted head (apart head rest e)) same-rules same-active refl refl ∙ k))
+
+    -- so the call does nothing but join
+    pub call-joins : bytesDone own seat t f ≡ joins
+    unfolding bytesDone andThen
+    call-joins = rw event-joins (rw settled (rw append-nil refl))
+
+    -- THE PLACE at which it joins: behind the line as it was.
+    pub joins-last : bytesDone own seat t f .farm .line ≡ f .line ++ seat ∷ []
+    joins-last = rw call-joins joined-line
