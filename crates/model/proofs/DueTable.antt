@@ -75,13 +75,13 @@ tick-entries row s i (x ∷ t) (suc g) h a =
 -- ---- the refusals that come before
 
 pub step-case : (P : Outcome → Type 0) (s : List ℕ) (l : Lent) (t : Table) (c : Call) → ((n : ℕ) → P (refuses (suc n)))
-    → (goodTable s t ≡ true → P (called s t (whose s c))) → P (step s l t c)
+    → (goodSheet s ≡ true → goodTable s t ≡ true → P (called s t (whose s c))) → P (step s l t c)
 unfolding step
 step-case P s l t c r k =
     unless-case P (goodSheet s) _ _ (λ e. r 0)
-    (λ e. unless-case P (leb leastOutput (l .output)) _ _ (λ e. r 1)
+    (λ sheet. unless-case P (leb leastOutput (l .output)) _ _ (λ e. r 1)
     (λ e. unless-case P (eqb (l .assembling) assemblingSize) _ _ (λ e. r 2)
-    (λ e. unless-case P (goodTable s t) _ _ (λ e. r 3) k)))
+    (λ e. unless-case P (goodTable s t) _ _ (λ e. r 3) (k sheet))))
 
 -- ---- whose call it is
 
@@ -113,10 +113,10 @@ not-everyones s (messageFrom f from to user) n e = ones-farm s f (controller fro
 -- ---- one farm's view of a call
 
 module _ (s : List ℕ) (g seat row : ℕ) (owner : ownerOf s row ≡ Seat (farmNo g) seat) where
-  inside : g < farmCount s
+  pub inside : g < farmCount s
   inside = owner-seat s row g seat owner .farmWithin
 
-  abbrev sheet : FarmSheet
+  abbrev pub sheet : FarmSheet
   sheet = slotSheet s g
 
   -- an entry on that seat is one on that row
@@ -154,10 +154,10 @@ module _ (s : List ℕ) (g seat row : ℕ) (owner : ownerOf s row ≡ Seat (farm
       subst (λ (x : Own). isCut seat x ≡ false) (farm-of s f g (controller from to user) o e .1) refl
 
   -- the farm after a call, and the call's entries
-  abbrev view : Table → Outcome → Done
+  abbrev pub view : Table → Outcome → Done
   view t o = does (slot (tableOf t o) g .farm) (itemsOf o)
 
-  abbrev Seen : ℕ → Table → Outcome → Type 0
+  abbrev pub Seen : ℕ → Table → Outcome → Type 0
   Seen n t o = After (Due seat n) row (view t o)
 
   -- a call that is refused leaves it due as it was
@@ -165,7 +165,7 @@ module _ (s : List ℕ) (g seat row : ℕ) (owner : ownerOf s row ≡ Seat (farm
   refused-seen n t (refuses k) e d = waits d
   refused-seen n t (did x) e d = absurd (false≢true (sym e))
 
-  own-seen : (n : ℕ) (t : Table) (m : Move) → g < length t → Moved sheet seat n (slot t g) m → Seen n t (movedTo t g m)
+  pub own-seen : (n : ℕ) (t : Table) (m : Move) → g < length t → Moved sheet seat n (slot t g) m → Seen n t (movedTo t g m)
   own-seen n t m h (gone a) =
       gone (subst (λ (x : List Item). Answered row x) (sym (items-moved t g m)) (subst (λ (r : ℕ). Answered r (itemsBy m)) row-is a))
   own-seen n t m h (waits d) = waits (subst (λ (x : Held). Due seat n (x .farm)) (sym (slot-own t g m h)) d)
@@ -264,4 +264,4 @@ module _ (s : List ℕ) (g seat row : ℕ) (owner : ownerOf s row ≡ Seat (farm
   step-law t m n d =
       kept t m n
       (step-case (KeptBy t (m .call) n) s (m .lent) t (m .call) (λ k. due n (rw (no-tick (isTick (m .call)) k) (omega arith)) d)
-      (λ e. by-call n t (m .call) d))
+      (λ _ _. by-call n t (m .call) d))

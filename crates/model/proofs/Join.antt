@@ -289,3 +289,6 @@ module _ (own : FarmSheet) (f : Farm) (seat : ℕ) (t : Taken) (size : ℕ) (che
     -- THE PLACE at which it joins: behind the line as it was.
     pub joins-last : bytesDone own seat t f .farm .line ≡ f .line ++ seat ∷ []
     joins-last = rw call-joins joined-line
+
+    pub joins-due : (n : ℕ) → checkLimit * suc (length (f .line)) ≤ n → Due seat n (bytesDone own seat t f .farm)
+    joins-due n w = rw call-joins (joined-due n (good .checkRuns) w)

@@ -7,4 +7,5 @@ pub mod Due
 pub mod DueCalls
 pub mod DueTable
 pub mod Join
+pub mod Bound
 pub mod Try
