@@ -8,4 +8,5 @@ pub mod DueCalls
 pub mod DueTable
 pub mod Join
 pub mod Bound
+pub mod DueAnswer
 pub mod Try
