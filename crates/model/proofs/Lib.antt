@@ -9,4 +9,6 @@ pub mod DueTable
 pub mod Join
 pub mod Bound
 pub mod DueAnswer
+pub mod DueMoment
+pub mod Tight
 pub mod Try

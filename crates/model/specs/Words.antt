@@ -11,6 +11,7 @@ use Rattle.kinds.specs.declared.Item.{Item}
 use Rattle.kinds.specs.declared.Reply.the-variants.{Activation}
 use Rattle.kinds.specs.declared.Check.{Check}
 use Rattle.kinds.specs.declared.Decision.the-variants.{Now, Ask}
+use Rattle.kinds.specs.declared.HeadVerdict.the-variants.{Pending}
 use Rattle.wire.specs.Header.{ourVersion}
 use Rattle.wire.specs.Payload.{requestIn}
 use Rattle.sheet.specs.declared.rows.Owner.the-variants.{Seat}
@@ -19,8 +20,8 @@ use Rattle.sheet.specs.Rows.{ownerOf}
 use Rattle.model.specs.FarmSheet.{FarmSheet, slotSheet}
 use Rattle.model.specs.Row.{checkLimit, rowAt, wanted}
 use Rattle.model.specs.Stream.{finished, Taken}
-use Rattle.model.specs.Farm.{Farm}
-use Rattle.model.specs.Line.{accepted, socketRules, decide, allAnswered, refusalOf}
+use Rattle.model.specs.Farm.{Farm, quietly}
+use Rattle.model.specs.Line.{accepted, socketRules, decide, allAnswered, refusalOf, headVerdict, serve}
 use Rattle.model.specs.Bytes.{takenBy}
 use Rattle.model.specs.Move.{Held}
 use Rattle.model.specs.Table.{Table, slot, Call, connectTo, bytesFrom, peerClosedOn, linkLostOf, tick, datagramTo, messageFrom, numberOf, itemsOf, tableOf}
@@ -112,3 +113,10 @@ pub data Because (own : FarmSheet) (f : Farm) (head : ℕ) : ℕ → Type 0 wher
   -- "If the clock is 50: unanswered asked rows close, then 10."
   ranOut : {check : Check} → socketRules own (f .rows) (wanted (rowAt (f .rows) head)) ≡ Ask check
       → allAnswered check (f .marks) (f .rows) ≡ false → checkLimit ≤ f .clock .ticks → Because own f head accepted
+
+-- the farms that settling goes through, each with the head that is decided then: "Settling one waiter brings up the next, whose settling may
+-- do the same."
+pub data Moment (own : FarmSheet) : List ℕ → Farm → ℕ → Farm → Type 0 where
+  thisHead : {head : ℕ} {rest : List ℕ} {f : Farm} → Moment own (head ∷ rest) f head f
+  nextHead : {head : ℕ} {rest : List ℕ} {f : Farm} {other : ℕ} {g : Farm} → (headVerdict own f head ≡ Pending → ⊥)
+      → Moment own rest (serve own head rest f (headVerdict own f head) quietly .farm) other g → Moment own (head ∷ rest) f other g
