@@ -14,6 +14,7 @@ use Rattle.octets.specs.Choice.{both, either, one}
 use Rattle.octets.specs.Search.{countIf, all}
 use Rattle.octets.proofs.ChoiceLaws.{both-left, both-right}
 use Rattle.kinds.specs.declared.Clock.{Clock}
+use Rattle.kinds.specs.declared.Request.{Request}
 use Rattle.kinds.specs.declared.RowState.{RowState}
 use Rattle.kinds.specs.declared.RowState.the-variants.{Free, Fresh, Waiting, Active}
 use Rattle.kinds.specs.declared.Check.{Check}
@@ -45,26 +46,26 @@ either-none : (a b : Bool) → either a b ≡ false → (a ≡ false) × (b ≡ 
 either-none true b e = absurd (false≢true (sym e))
 either-none false b e = (refl, e)
 
-module _ (s : List ℕ) (g seat row : ℕ) (owner : ownerOf s row ≡ Seat (farmNo g) seat) where
-  same-count : (t : Table) (ms : List Made) → count (next s g seat row owner) (tickOf s g seat row owner) (EndsBy s g seat row owner) t ms ≡ ticksIn s t ms
+module _ (s : List ℕ) (g seat row : ℕ) (q : Request) (owner : ownerOf s row ≡ Seat (farmNo g) seat) where
+  same-count : (t : Table) (ms : List Made) → count (next s g seat row q owner) (tickOf s g seat row q owner) (EndsBy s g seat row q owner) t ms ≡ ticksIn s t ms
   unfolding ticksIn
   same-count t [] = refl
   same-count t (m ∷ ms) = ap (one (acceptedTick s t m) +_) (same-count (tableOf t (stepOf s t m)) ms)
 
-  ends-answered : (t : Table) (ms : List Made) → Within (next s g seat row owner) (tickOf s g seat row owner) (EndsBy s g seat row owner) t ms
-      → cutIn row g s t ms ≡ false → Answered row (entriesIn s t ms)
+  ends-answered : (t : Table) (ms : List Made) → Within (next s g seat row q owner) (tickOf s g seat row q owner) (EndsBy s g seat row q owner) t ms
+      → cutIn row g s t ms ≡ false → Answered row (q .address) (entriesIn s t ms)
   unfolding cutIn entriesIn
   ends-answered t (m ∷ ms) (now (answer a)) c = more-left (entriesIn s (tableOf t (stepOf s t m)) ms) a
   ends-answered t (m ∷ ms) (now (cut e)) c = absurd (false≢true (sym (either-none (cuts row g s t m) _ c .0) ∙ e))
   ends-answered t (m ∷ ms) (later w) c =
       more-right (itemsOf (stepOf s t m)) (ends-answered (tableOf t (stepOf s t m)) ms w (either-none (cuts row g s t m) _ c .1))
 
-  pub due-answered : (t : Table) (ms : List Made) (n : ℕ) → Due seat n (slot t g .farm) → cutIn row g s t ms ≡ false → n ≤ ticksIn s t ms
-      → Answered row (entriesIn s t ms)
+  pub due-answered : (t : Table) (ms : List Made) (n : ℕ) → Due seat q n (slot t g .farm) → cutIn row g s t ms ≡ false → n ≤ ticksIn s t ms
+      → Answered row (q .address) (entriesIn s t ms)
   due-answered t ms n d c h =
       ends-answered t ms
-      (bound (next s g seat row owner) (tickOf s g seat row owner) (EndsBy s g seat row owner) (DueIn s g seat row owner)
-      (λ x e. never-now (slot x g .farm) e) (step-law s g seat row owner) ms t n d (rw (same-count t ms) h))
+      (bound (next s g seat row q owner) (tickOf s g seat row q owner) (EndsBy s g seat row q owner) (DueIn s g seat row q owner)
+      (λ x e. never-now (slot x g .farm) e) (step-law s g seat row q owner) ms t n d (rw (same-count t ms) h))
       c
 
 -- ---- what a call that is done says of sheet and table
@@ -137,7 +138,7 @@ fresh-of t g own h seat input (Fresh age) a e = (age, refl)
 fresh-of t g own h seat input (Waiting q) a e = absurd (false≢true e)
 fresh-of t g own h seat input (Active b idle) a e = absurd (false≢true (sym a))
 
-module _ (s : List ℕ) (t : Table) (m : Made) (row g seat : ℕ) (w : MustWait s t m row g seat) where
+module _ (s : List ℕ) (t : Table) (m : Made) (row g seat : ℕ) (q : Request) (w : MustWait s t m row g seat q) where
   abbrev own : FarmSheet
   own = slotSheet s g
 
@@ -172,11 +173,11 @@ module _ (s : List ℕ) (t : Table) (m : Made) (row g seat : ℕ) (w : MustWait 
   is-taken = is-moved ∙ rw (fresh-row .1) refl
 
   -- after it, the row is answered or due
-  seen : (n : ℕ) → checkLimit * suc (length (held .farm .line)) ≤ n → Seen s g seat row (w .owner) n t (stepOf s t m)
+  seen : (n : ℕ) → checkLimit * suc (length (held .farm .line)) ≤ n → Seen s g seat row q (w .owner) n t (stepOf s t m)
   seen n h =
-      subst (λ (o : Outcome). Seen s g seat row (w .owner) n t o) (sym is-taken)
-      (own-seen s g seat row (w .owner) n t (tookBytes own held seat took) has-slot
-      (join-due own (held .farm) seat took (w .size) (w .check) (fresh-row .0) (fresh-row .1) (w .whole) (w .waits) n
+      subst (λ (o : Outcome). Seen s g seat row q (w .owner) n t o) (sym is-taken)
+      (own-seen s g seat row q (w .owner) n t (tookBytes own held seat took) has-slot
+      (join-due own (held .farm) seat took (w .size) q (w .check) (fresh-row .0) (fresh-row .1) (w .whole) (w .says) (w .waits) n
       (good-runs own (held .farm) (good-slot s t g has-slot (ok .goodTableIs))) h))
 
   -- ---- from a table that keeps the rules it is not answered by that very call
@@ -184,7 +185,7 @@ module _ (s : List ℕ) (t : Table) (m : Made) (row g seat : ℕ) (w : MustWait 
   module _ (opens : Opens) (rules : RulesHold) (some : SomePlace) where
     quota-some : 1 ≤ own .quota
     unfolding slotSheet farmSheet
-    quota-some = rw (lt-ltb g (farmCount s) (inside s g seat row (w .owner))) (some s g (ok .goodSheetIs) (inside s g seat row (w .owner)))
+    quota-some = rw (lt-ltb g (farmCount s) (inside s g seat row q (w .owner))) (some s g (ok .goodSheetIs) (inside s g seat row q (w .owner)))
 
     good-farm : Good own (held .farm)
     good-farm = rules own (held .farm) (good-slot s t g has-slot (ok .goodTableIs))
@@ -194,26 +195,27 @@ module _ (s : List ℕ) (t : Table) (m : Made) (row g seat : ℕ) (w : MustWait 
     line-after =
         ap (λ (o : Outcome). slot (tableOf t o) g .farm .line) is-taken
         ∙ ap (λ (h : Held). h .farm .line) (slot-own t g (tookBytes own held seat took) has-slot)
-        ∙ joins-last own (held .farm) seat took (w .size) (w .check) (fresh-row .0) (fresh-row .1) (w .whole) (w .waits) quota-some good-farm opens
+        ∙ joins-last own (held .farm) seat took (w .size) q (w .check) (fresh-row .0) (fresh-row .1) (w .whole) (w .says) (w .waits) quota-some good-farm opens
 
-    due-after : (n : ℕ) → checkLimit * suc (length (held .farm .line)) ≤ n → Due seat n (slot (tableOf t (stepOf s t m)) g .farm)
+    due-after : (n : ℕ) → checkLimit * suc (length (held .farm .line)) ≤ n → Due seat q n (slot (tableOf t (stepOf s t m)) g .farm)
     due-after n h =
-        subst (λ (x : Held). Due seat n (x .farm))
+        subst (λ (x : Held). Due seat q n (x .farm))
         (sym (ap (λ (o : Outcome). slot (tableOf t o) g) is-taken ∙ slot-own t g (tookBytes own held seat took) has-slot))
-        (joins-due own (held .farm) seat took (w .size) (w .check) (fresh-row .0) (fresh-row .1) (w .whole) (w .waits) quota-some good-farm opens n h)
+        (joins-due own (held .farm) seat took (w .size) q (w .check) (fresh-row .0) (fresh-row .1) (w .whole) (w .says) (w .waits) quota-some good-farm opens n h)
 
 -- ---- THE THEOREMS
 
--- From any table that keeps the rules: a row that stands in its farm's line with k before it, that is at place k + 1, has its answer among
--- the entries of any calls that hold checkLimit * (k + 1) accepted ticks and no loss of its connection or of its farm's link.
-pub answered-by : (s : List ℕ) (t : Table) (row g seat k : ℕ) → goodTable s t ≡ true → ownerOf s row ≡ Seat (farmNo g) seat
-    → Stands seat (slot t g .farm .line) k → (ms : List Made) → cutIn row g s t ms ≡ false → checkLimit * (k + 1) ≤ ticksIn s t ms
-    → Answered row (entriesIn s t ms)
-answered-by s t row g seat k good owner a ms c h =
+-- From any table that keeps the rules: a row that waits with a request, and stands in its farm's line with k before it, that is at place
+-- k + 1, has its answer among the entries of any calls that hold checkLimit * (k + 1) accepted ticks and no loss of its connection or of its farm's link.
+pub answered-by : (s : List ℕ) (t : Table) (row g seat k : ℕ) (q : Request) → goodTable s t ≡ true → ownerOf s row ≡ Seat (farmNo g) seat
+    → Stands seat (slot t g .farm .line) k → rowAt (slot t g .farm .rows) seat .state ≡ Waiting q
+    → (ms : List Made) → cutIn row g s t ms ≡ false → checkLimit * (k + 1) ≤ ticksIn s t ms
+    → Answered row (q .address) (entriesIn s t ms)
+answered-by s t row g seat k q good owner a x ms c h =
     let r : slot t g .farm .clock .ticks < checkLimit = good-runs (slotSheet s g) (slot t g .farm) (good-slot s t g (slot-in t g a) good) in
-    due-answered s g seat row owner t ms (checkLimit * (k + 1))
+    due-answered s g seat row q owner t ms (checkLimit * (k + 1))
     (record {
-      near = record { place = k; at = a; runs = omega arith; within = rw add-one (omega (arith, mul-suc checkLimit k)) };
+      near = record { place = k; at = a; runs = omega arith; within = rw add-one (omega (arith, mul-suc checkLimit k)); asks = x };
       running = r;
     })
     c h
@@ -221,34 +223,34 @@ answered-by s t row g seat k good owner a ms c h =
 -- From any table at all: with the call m, which is done, a row gives the last byte of a request that must wait, and there are k - 1 in its
 -- farm's line. Whatever calls follow, if they hold checkLimit * k accepted ticks and no loss of its connection or of its farm's link, the
 -- answer to the row is among the entries from that call on.
-pub answered-from : (s : List ℕ) (t : Table) (m : Made) (row g seat k : ℕ) → MustWait s t m row g seat → k ≡ length (slot t g .farm .line) + 1
+pub answered-from : (s : List ℕ) (t : Table) (m : Made) (row g seat k : ℕ) (q : Request) → MustWait s t m row g seat q → k ≡ length (slot t g .farm .line) + 1
     → (ms : List Made) → cutIn row g s (tableOf t (stepOf s t m)) ms ≡ false → checkLimit * k ≤ ticksIn s (tableOf t (stepOf s t m)) ms
-    → Answered row (entriesIn s t (m ∷ ms))
+    → Answered row (q .address) (entriesIn s t (m ∷ ms))
 unfolding entriesIn
-answered-from s t m row g seat k w e ms c h =
-    by (seen s t m row g seat w (checkLimit * k) (rw (e ∙ add-one (length (slot t g .farm .line))) (omega arith)))
+answered-from s t m row g seat k q w e ms c h =
+    by (seen s t m row g seat q w (checkLimit * k) (rw (e ∙ add-one (length (slot t g .farm .line))) (omega arith)))
   where
-    by : Seen s g seat row (w .owner) (checkLimit * k) t (stepOf s t m) → Answered row (entriesIn s t (m ∷ ms))
+    by : Seen s g seat row q (w .owner) (checkLimit * k) t (stepOf s t m) → Answered row (q .address) (entriesIn s t (m ∷ ms))
     by (gone a) = more-left (entriesIn s (tableOf t (stepOf s t m)) ms) a
     by (waits d) =
-        more-right (itemsOf (stepOf s t m)) (due-answered s g seat row (w .owner) (tableOf t (stepOf s t m)) ms (checkLimit * k) d c h)
+        more-right (itemsOf (stepOf s t m)) (due-answered s g seat row q (w .owner) (tableOf t (stepOf s t m)) ms (checkLimit * k) d c h)
 
 module _ (opens : Opens) (rules : RulesHold) (some : SomePlace) where
   -- A request that must wait stands, after its call, at the end of its farm's line as it was: it joins at place k = length + 1, and that
   -- call does not answer it.
-  pub joins-at : (s : List ℕ) (t : Table) (m : Made) (row g seat : ℕ) → MustWait s t m row g seat
+  pub joins-at : (s : List ℕ) (t : Table) (m : Made) (row g seat : ℕ) (q : Request) → MustWait s t m row g seat q
       → slot (tableOf t (stepOf s t m)) g .farm .line ≡ slot t g .farm .line ++ seat ∷ []
-  joins-at s t m row g seat w = line-after s t m row g seat w opens rules some
+  joins-at s t m row g seat q w = line-after s t m row g seat q w opens rules some
 
   -- DEMAND 3. After any calls from a fresh table, under one sheet, with no second start, a readable activation request that must wait for an
   -- alive check joins its farm's line at place k. Whatever calls follow, if they hold checkLimit * k accepted ticks, and its own connection
   -- and its farm's link are not lost among them, then its answer is among their entries. So it has its answer by the accepted tick number
   -- checkLimit * k after it joined: take for `ms` the calls up to that tick.
-  pub must-be-answered : (s : List ℕ) (rooms : List (List (List ℕ))) (past : List Made) (m : Made) (row g seat k : ℕ)
-      → MustWait s (run s (fresh rooms) past) m row g seat → k ≡ length (slot (run s (fresh rooms) past) g .farm .line) + 1
+  pub must-be-answered : (s : List ℕ) (rooms : List (List (List ℕ))) (past : List Made) (m : Made) (row g seat k : ℕ) (q : Request)
+      → MustWait s (run s (fresh rooms) past) m row g seat q → k ≡ length (slot (run s (fresh rooms) past) g .farm .line) + 1
       → let joined = tableOf (run s (fresh rooms) past) (stepOf s (run s (fresh rooms) past) m) in
-      (ms : List Made) → cutIn row g s joined ms ≡ false → checkLimit * k ≤ ticksIn s joined ms → Answered row (entriesIn s joined ms)
-  must-be-answered s rooms past m row g seat k w e ms c h =
+      (ms : List Made) → cutIn row g s joined ms ≡ false → checkLimit * k ≤ ticksIn s joined ms → Answered row (q .address) (entriesIn s joined ms)
+  must-be-answered s rooms past m row g seat k q w e ms c h =
       let t : Table = run s (fresh rooms) past in
-      due-answered s g seat row (w .owner) (tableOf t (stepOf s t m)) ms (checkLimit * k)
-      (due-after s t m row g seat w opens rules some (checkLimit * k) (rw (e ∙ add-one (length (slot t g .farm .line))) (omega arith))) c h
+      due-answered s g seat row q (w .owner) (tableOf t (stepOf s t m)) ms (checkLimit * k)
+      (due-after s t m row g seat q w opens rules some (checkLimit * k) (rw (e ∙ add-one (length (slot t g .farm .line))) (omega arith))) c h

@@ -3,178 +3,277 @@
 -- Assumes nothing.
 use Prim.Native.Nat.{ℕ, zero, suc, _+_, _*_, _≤_, _<_}
 use mathlib.Core.Path.{_≡_, refl, sym, ap, subst, _∙_}
-use mathlib.Core.Bool.{Bool, true, false}
+use mathlib.Core.Bool.{Bool, true, false, false≢true}
 use mathlib.Core.List.{List, [], _∷_, _++_, List·Memᴰ, List·Memᴰ·head, Memᴰ·append-left, Memᴰ·append-right}
 use native.Mathlib.Nat.{mul-suc}
 use native.Mathlib.Omega.{arith}
 use lib.Dec.{eqb, leb}
-use borrow.Author.Tests.{leb-false}
+use lib.ListN.{getD, set, length}
+use borrow.Author.Tests.{leb-false, eqb-true, eqb-false, ne-eqb}
+use Rattle.octets.specs.declared.Found.{Found}
+use Rattle.octets.specs.declared.Found.the-variants.{At, Nothing}
 use Rattle.octets.specs.Choice.{pick}
+use Rattle.octets.specs.Search.{firstAt, countIf}
 use Rattle.kinds.specs.declared.Clock.{Clock}
 use Rattle.kinds.specs.declared.Item.{Item}
 use Rattle.kinds.specs.declared.Reply.the-variants.{Activation, AliveCheck}
+use Rattle.kinds.specs.declared.Request.{Request}
+use Rattle.kinds.specs.declared.Row.{Row}
+use Rattle.kinds.specs.declared.RowState.{RowState}
+use Rattle.kinds.specs.declared.RowState.the-variants.{Waiting}
 use Rattle.kinds.specs.declared.Check.{Check}
+use Rattle.kinds.specs.declared.Check.the-variants.{One, All}
 use Rattle.kinds.specs.declared.Decision.{Decision}
 use Rattle.kinds.specs.declared.Decision.the-variants.{Now, Ask}
 use Rattle.kinds.specs.declared.HeadVerdict.{HeadVerdict}
 use Rattle.kinds.specs.declared.HeadVerdict.the-variants.{Pending, Answer, RunOut}
 use Rattle.model.specs.FarmSheet.{FarmSheet}
-use Rattle.model.specs.Row.{clockOf, checkLimit, rowAt, wanted, activeRow}
+use Rattle.model.specs.Row.{clockOf, checkLimit, freeRow, rowAt, wantedBy, isActiveState, activeAsState, isActive, activeAs, wanted, activeRow}
 use Rattle.model.specs.Farm.{Farm, Done, does, quietly, andThen, eachSeat, withRow, withLine, says, closed, closedWhere}
-use Rattle.model.specs.Line.{accepted, socketRules, asks, isSilent, allAnswered, refusalOf, askedIf, asking, cleared, started, advanced, answered, verdictBy, headVerdict, serve, settleLine, settle}
+use Rattle.model.specs.Line.{accepted, byHolder, socketRules, asks as asksIt, isSilent, allAnswered, refusalOf, askedIf, asking, cleared, started, advanced, answered, verdictBy, headVerdict, serve, settleLine, settle}
 use Rattle.model.specs.Words.{Stands, first, behind, Answered, answers}
-use Rattle.model.proofs.Cases.{pick-case}
-use Rattle.model.proofs.Seats.{then-items, each-keeps, closings-keep, closed-line, closed-clock}
+use Rattle.model.proofs.Cases.{pick-case, split}
+use Rattle.model.proofs.Rows.{row-other}
+use Rattle.model.proofs.Seats.{then-items, then-farm, each-keeps, closings-keep, closed-rows}
 
 -- ---- answers among entries
 
-pub more-left : {row : ℕ} {items : List Item} (more : List Item) → Answered row items → Answered row (items ++ more)
-more-left more (answers a e c m) = answers a e c (Memᴰ·append-left more m)
+pub more-left : {row address : ℕ} {items : List Item} (more : List Item) → Answered row address items → Answered row address (items ++ more)
+more-left more (answers e c m) = answers e c (Memᴰ·append-left more m)
 
-pub more-right : {row : ℕ} (before : List Item) {items : List Item} → Answered row items → Answered row (before ++ items)
-more-right before (answers a e c m) = answers a e c (Memᴰ·append-right before m)
+pub more-right : {row address : ℕ} (before : List Item) {items : List Item} → Answered row address items → Answered row address (before ++ items)
+more-right before (answers e c m) = answers e c (Memᴰ·append-right before m)
 
 -- what is done answers the row, or leaves a farm of which P holds
-pub data After (P : Farm → Type 0) (row : ℕ) (d : Done) : Type 0 where
-  gone : Answered row (d .items) → After P row d
-  waits : P (d .farm) → After P row d
+pub data After (P : Farm → Type 0) (row address : ℕ) (d : Done) : Type 0 where
+  gone : Answered row address (d .items) → After P row address d
+  waits : P (d .farm) → After P row address d
 
-pub then-after : {P Q : Farm → Type 0} {row : ℕ} (d : Done) (g : Farm → Done) → After P row d → ((f : Farm) → P f → After Q row (g f))
-    → After Q row (andThen d g)
+pub then-after : {P Q : Farm → Type 0} {row address : ℕ} (d : Done) (g : Farm → Done) → After P row address d
+    → ((f : Farm) → P f → After Q row address (g f)) → After Q row address (andThen d g)
 unfolding andThen
 then-after d g (gone a) k = gone (more-left (g (d .farm) .items) a)
-then-after {Q = Q} {row = row} d g (waits p) k = next (k (d .farm) p)
+then-after {Q = Q} {row = row} {address = address} d g (waits p) k = next (k (d .farm) p)
   where
-    next : After Q row (g (d .farm)) → After Q row (andThen d g)
+    next : After Q row address (g (d .farm)) → After Q row address (andThen d g)
     next (gone a) = gone (more-right (d .items) a)
     next (waits q) = waits q
 
 -- ---- due
 
--- the seat stands in the line, and n ticks are enough for its answer; a tick may have brought the clock to the limit
-pub record Near (seat n : ℕ) (f : Farm) : Type 0 where
+-- the row waits with its request
+abbrev pub Asks : ℕ → Request → Farm → Type 0
+Asks seat q f = rowAt (f .rows) seat .state ≡ Waiting q
+
+-- it stands in the line, and n ticks are enough for its answer; a tick may have brought the clock to the limit
+pub record Near (seat : ℕ) (q : Request) (n : ℕ) (f : Farm) : Type 0 where
   pub place : ℕ
   pub at : Stands seat (f .line) place
   pub runs : f .clock .ticks ≤ checkLimit
   pub within : checkLimit * place + checkLimit ≤ n + f .clock .ticks
+  pub asks : Asks seat q f
 
 -- the same between two calls
-pub record Due (seat n : ℕ) (f : Farm) : Type 0 where
-  pub near : Near seat n f
+pub record Due (seat : ℕ) (q : Request) (n : ℕ) (f : Farm) : Type 0 where
+  pub near : Near seat q n f
   pub running : f .clock .ticks < checkLimit
 
--- it looks at nothing but line and clock
-pub near-same : {seat n : ℕ} (f g : Farm) → g .line ≡ f .line → g .clock ≡ f .clock → Near seat n f → Near seat n g
-near-same {seat} {n} f g l c d =
+-- what is seen of a farm by one who waits: line, clock, and its own row
+pub record Alike (seat : ℕ) (f g : Farm) : Type 0 where
+  pub line : g .line ≡ f .line
+  pub clock : g .clock ≡ f .clock
+  pub row : rowAt (g .rows) seat ≡ rowAt (f .rows) seat
+
+pub near-same : {seat n : ℕ} {q : Request} (f g : Farm) → Alike seat f g → Near seat q n f → Near seat q n g
+near-same {seat} {n} {q} f g s d =
     record {
       place = d .place;
-      at = subst (λ (x : List ℕ). Stands seat x (d .place)) (sym l) (d .at);
-      runs = subst (λ (x : Clock). x .ticks ≤ checkLimit) (sym c) (d .runs);
-      within = subst (λ (x : Clock). checkLimit * d .place + checkLimit ≤ n + x .ticks) (sym c) (d .within);
+      at = subst (λ (x : List ℕ). Stands seat x (d .place)) (sym (s .line)) (d .at);
+      runs = subst (λ (x : Clock). x .ticks ≤ checkLimit) (sym (s .clock)) (d .runs);
+      within = subst (λ (x : Clock). checkLimit * d .place + checkLimit ≤ n + x .ticks) (sym (s .clock)) (d .within);
+      asks = subst (λ (r : Row). r .state ≡ Waiting q) (sym (s .row)) (d .asks);
     }
 
 -- ---- an answer
 
-pub answer-in : (own : FarmSheet) (seat address code : ℕ) (f : Farm) → Answered (own .first + seat) (answered own seat address code f .items)
+pub answer-in : (own : FarmSheet) (seat address code : ℕ) (f : Farm) → Answered (own .first + seat) address (answered own seat address code f .items)
 unfolding answered andThen
 answer-in own seat address code f =
-    pick-case (λ (d : Done). Answered (own .first + seat) (d .items)) (eqb code accepted) _ _
-    (λ e. answers address (own .entity) code (List·Memᴰ·head refl)) (λ e. answers address (own .entity) code (List·Memᴰ·head refl))
+    pick-case (λ (d : Done). Answered (own .first + seat) address (d .items)) (eqb code accepted) _ _
+    (λ e. answers (own .entity) code (List·Memᴰ·head refl)) (λ e. answers (own .entity) code (List·Memᴰ·head refl))
+
+-- it touches no row but its own
+pub answered-row : (own : FarmSheet) (i address code : ℕ) (f : Farm) (k : ℕ) → (k ≡ i → ⊥)
+    → rowAt (answered own i address code f .farm .rows) k ≡ rowAt (f .rows) k
+unfolding answered andThen
+answered-row own i address code f k n =
+    pick-case (λ (d : Done). rowAt (d .farm .rows) k ≡ rowAt (f .rows) k) (eqb code accepted) _ _
+    (λ e. row-other (f .rows) i k (activeRow address) n) (λ e. rw (closed-rows own i f) (row-other (f .rows) i k freeRow n))
+
+-- ---- no check asks a row that waits
+
+-- where the first stands that passes
+pub record Passes (p : Row → Bool) (rows : List Row) (i : ℕ) : Type 0 where
+  pub within : i < length rows
+  pub passes : p (rowAt rows i) ≡ true
+
+first-from : (p : Row → Bool) (rows : List Row) (k s : ℕ) → firstAt p k rows ≡ At s → (i : ℕ) × (s ≡ k + i) × Passes p rows i
+unfolding firstAt
+first-from p [] k s e = absurd (let z : _≡_ {A = ℕ} 0 1 = cc in omega arith)
+first-from p (x ∷ l) k s e =
+    pick-case (λ o. o ≡ At s → (i : ℕ) × (s ≡ k + i) × Passes p (x ∷ l) i) (p x) (At k) (firstAt p (suc k) l)
+    (λ t z. let y : k ≡ s = cc in (0, omega arith, record { within = omega arith; passes = t }))
+    (λ t z. let r = first-from p l (suc k) s z in
+    (suc (r .0), omega (arith, r .1), record { within = omega (arith, r .2 .within); passes = r .2 .passes })) e
+
+pub first-at : (p : Row → Bool) (rows : List Row) (s : ℕ) → firstAt p 0 rows ≡ At s → Passes p rows s
+first-at p rows s e =
+    let r = first-from p rows 0 s e in
+    let z : r .0 ≡ s = omega (arith, r .1) in
+    subst (Passes p rows) z (r .2)
+
+-- the check does not ask that seat, as long as its row waits
+Spares : ℕ → Check → Type 0
+Spares seat (One s) = s ≡ seat → ⊥
+Spares seat All = Unit {0}
+
+rules-spare : (own : FarmSheet) (rows : List Row) (a seat : ℕ) (q : Request) (check : Check) → rowAt rows seat .state ≡ Waiting q
+    → socketRules own rows a ≡ Ask check → Spares seat check
+unfolding socketRules Spares
+rules-spare own rows a seat q check w = by (firstAt (activeAs a) 0 rows) refl
+  where
+    by : (o : Found) → firstAt (activeAs a) 0 rows ≡ o → byHolder own rows o ≡ Ask check → Spares seat check
+    by (At s) o e =
+        let z : One s ≡ check = cc in
+        subst (Spares seat) z
+        (λ x. false≢true (sym (ap (activeAsState a) w) ∙ subst (λ (i : ℕ). activeAs a (rowAt rows i) ≡ true) x (first-at (activeAs a) rows s o .passes)))
+    by Nothing o e =
+        pick-case (λ d. d ≡ Ask check → Spares seat check) (leb (own .quota) (countIf isActive rows)) (Ask All) (Now accepted)
+        (λ _ z. let y : All ≡ check = cc in subst (Spares seat) y tt) (λ _ z. absurd (let y : _≡_ {A = ℕ} 0 1 = cc in omega arith)) e
+
+spared : (seat : ℕ) (q : Request) (check : Check) (marks : List Bool) (r : Row) → Spares seat check → r .state ≡ Waiting q
+    → isSilent check marks seat r ≡ false
+unfolding Spares
+spared seat q check marks r n w =
+    pick-case (λ b. b ≡ false) (getD marks seat false) false (asksIt check seat r) (λ _. refl) (λ _. by check n)
+  where
+    by : (c : Check) → Spares seat c → asksIt c seat r ≡ false
+    by (One s) n = ne-eqb seat s (λ e. n (sym e))
+    by All n = ap isActiveState w
 
 -- ---- the next head
 
 -- the check of a new head starts: whatever the farm was, the line is the rest and the clock is 0
-pub record Anew (rest : List ℕ) (f : Farm) : Type 0 where
+pub record Anew (rest : List ℕ) (rows : List Row) (f : Farm) : Type 0 where
   pub line : f .line ≡ rest
   pub clock : f .clock .ticks ≡ 0
+  pub same : f .rows ≡ rows
 
 asking-keeps : (own : FarmSheet) (P : Farm → Type 0) (d : Decision) (f : Farm) → P f → P (asking own d f .farm)
 unfolding askedIf
 asking-keeps own P (Now code) f p = p
 asking-keeps own P (Ask check) f p =
     each-keeps (askedIf own check) f P p
-    (λ i x q. pick-case (λ (e : Done). P (e .farm)) (asks check i (rowAt (x .rows) i)) (does x (says own i AliveCheck ∷ [])) (quietly x) (λ e. q) (λ e. q))
+    (λ i x q. pick-case (λ (e : Done). P (e .farm)) (asksIt check i (rowAt (x .rows) i)) (does x (says own i AliveCheck ∷ [])) (quietly x) (λ e. q) (λ e. q))
 
-pub advanced-anew : (own : FarmSheet) (rest : List ℕ) (f : Farm) → Anew rest (advanced own rest f .farm)
+pub advanced-anew : (own : FarmSheet) (rest : List ℕ) (f : Farm) → Anew rest (f .rows) (advanced own rest f .farm)
 unfolding advanced started
-advanced-anew own [] f = record { line = refl; clock = refl }
+advanced-anew own [] f = record { line = refl; clock = refl; same = refl }
 advanced-anew own (head ∷ rest) f =
-    asking-keeps own (Anew (head ∷ rest)) (socketRules own (f .rows) (wanted (rowAt (f .rows) head))) (cleared (withLine f (head ∷ rest)))
-    (record { line = refl; clock = refl })
+    asking-keeps own (Anew (head ∷ rest) (f .rows)) (socketRules own (f .rows) (wanted (rowAt (f .rows) head))) (cleared (withLine f (head ∷ rest)))
+    (record { line = refl; clock = refl; same = refl })
 
-pub advanced-near : (own : FarmSheet) (seat n : ℕ) (rest : List ℕ) (f : Farm) (j : ℕ) → Stands seat rest j → checkLimit * suc j ≤ n
-    → Near seat n (advanced own rest f .farm)
-advanced-near own seat n rest f j b w =
-    let r : Anew rest (advanced own rest f .farm) = advanced-anew own rest f in
+pub advanced-near : (own : FarmSheet) (seat : ℕ) (q : Request) (n : ℕ) (rest : List ℕ) (f : Farm) (j : ℕ) → Stands seat rest j
+    → checkLimit * suc j ≤ n → Asks seat q f → Near seat q n (advanced own rest f .farm)
+advanced-near own seat q n rest f j b w a =
+    let r : Anew rest (f .rows) (advanced own rest f .farm) = advanced-anew own rest f in
     record {
       place = j;
       at = subst (λ (x : List ℕ). Stands seat x j) (sym (r .line)) b;
       runs = omega (arith, r .clock);
       within = omega (arith, r .clock, mul-suc checkLimit j);
+      asks = subst (λ (x : List Row). rowAt x seat .state ≡ Waiting q) (sym (r .same)) a;
     }
 
 -- ---- settling
 
 -- what the head's verdict leaves room for
-Allows : (n k clock : ℕ) → HeadVerdict → Type 0
-Allows n k clock Pending = clock < checkLimit
-Allows n k clock (Answer code) = checkLimit * k ≤ n
-Allows n k clock (RunOut check) = checkLimit * k ≤ n
+Allows : (seat n k clock : ℕ) → HeadVerdict → Type 0
+Allows seat n k clock Pending = clock < checkLimit
+Allows seat n k clock (Answer code) = checkLimit * k ≤ n
+Allows seat n k clock (RunOut check) = (checkLimit * k ≤ n) × Spares seat check
 
-verdict-allows : (n k : ℕ) (f : Farm) (d : Decision) → f .clock .ticks ≤ checkLimit → checkLimit * k + checkLimit ≤ n + f .clock .ticks
-    → Allows n k (f .clock .ticks) (verdictBy f d)
+verdict-allows : (seat n k : ℕ) (f : Farm) (d : Decision) → ((check : Check) → d ≡ Ask check → Spares seat check) → f .clock .ticks ≤ checkLimit
+    → checkLimit * k + checkLimit ≤ n + f .clock .ticks → Allows seat n k (f .clock .ticks) (verdictBy f d)
 unfolding Allows
-verdict-allows n k f (Now code) r w = omega arith
-verdict-allows n k f (Ask check) r w =
-    pick-case (Allows n k (f .clock .ticks)) (allAnswered check (f .marks) (f .rows)) (Answer (refusalOf check)) _ (λ e. omega arith)
-    (λ e. pick-case (Allows n k (f .clock .ticks)) (leb checkLimit (f .clock .ticks)) (RunOut check) Pending (λ h. omega arith)
+verdict-allows seat n k f (Now code) s r w = omega arith
+verdict-allows seat n k f (Ask check) s r w =
+    pick-case (Allows seat n k (f .clock .ticks)) (allAnswered check (f .marks) (f .rows)) (Answer (refusalOf check)) _ (λ e. omega arith)
+    (λ e. pick-case (Allows seat n k (f .clock .ticks)) (leb checkLimit (f .clock .ticks)) (RunOut check) Pending (λ h. (omega arith, s check refl))
     (λ h. leb-false checkLimit (f .clock .ticks) h))
 
--- a farm about to be settled, its line given
-record Lined (seat n : ℕ) (line : List ℕ) (f : Farm) : Type 0 where
-  isLine : f .line ≡ line
-  near : Near seat n f
+module _ (own : FarmSheet) (seat : ℕ) (q : Request) (n : ℕ) where
+  -- it is answered, or due
+  abbrev pub Ends : Done → Type 0
+  Ends d = After (Due seat q n) (own .first + seat) (q .address) d
 
--- the head has its answer: the row is answered, or it is one place further up and the next check starts
-front : (own : FarmSheet) (seat n head : ℕ) (rest : List ℕ) (d : Done) (next : Farm → Done) (k : ℕ) → Stands seat (head ∷ rest) k
-    → checkLimit * k ≤ n → Answered (own .first + head) (d .items) → ((f : Farm) → Lined seat n rest f → After (Due seat n) (own .first + seat) (next f))
-    → After (Due seat n) (own .first + seat) (andThen (andThen d (advanced own rest)) next)
-unfolding andThen
-front own seat n head rest d next zero (first e) w a ih =
-    gone
-    (more-left (next (advanced own rest (d .farm) .farm) .items)
-    (more-left (advanced own rest (d .farm) .items) (subst (λ (x : ℕ). Answered (own .first + x) (d .items)) (sym e) a)))
-front own seat n head rest d next (suc j) (behind b) w a ih =
-    then-after {P = Lined seat n rest} (andThen d (advanced own rest)) next
-    (waits (record { isLine = advanced-anew own rest (d .farm) .line; near = advanced-near own seat n rest (d .farm) j b w }))
-    ih
+  -- a farm about to be settled, its line given
+  record Lined (line : List ℕ) (f : Farm) : Type 0 where
+    isLine : f .line ≡ line
+    near : Near seat q n f
 
-serve-due : (own : FarmSheet) (seat n head : ℕ) (rest : List ℕ) (f : Farm) (v : HeadVerdict) (next : Farm → Done) → f .line ≡ head ∷ rest
-    → (d : Near seat n f) → Allows n (d .place) (f .clock .ticks) v → ((g : Farm) → Lined seat n rest g → After (Due seat n) (own .first + seat) (next g))
-    → After (Due seat n) (own .first + seat) (serve own head rest f v next)
-unfolding Allows
-serve-due own seat n head rest f Pending next l d w ih = waits (record { near = d; running = w })
-serve-due own seat n head rest f (Answer code) next l d w ih =
-    front own seat n head rest _ next (d .place) (subst (λ (x : List ℕ). Stands seat x (d .place)) l (d .at)) w
-    (answer-in own head (wanted (rowAt (f .rows) head)) code f) ih
-serve-due own seat n head rest f (RunOut check) next l d w ih =
-    let e : Done = closedWhere own (isSilent check (f .marks)) f in
-    let a : Farm → Done = answered own head (wanted (rowAt (f .rows) head)) accepted in
-    front own seat n head rest (andThen e a) next (d .place) (subst (λ (x : List ℕ). Stands seat x (d .place)) l (d .at)) w
-    (subst (λ (x : List Item). Answered (own .first + head) x) (sym (then-items e a))
-    (more-right (e .items) (answer-in own head (wanted (rowAt (f .rows) head)) accepted (e .farm)))) ih
+  -- the head has its answer: it was this row's, or this row is one place further up and the next check starts
+  front : (head : ℕ) (rest : List ℕ) (d : Done) (next : Farm → Done) (k : ℕ) → Stands seat (head ∷ rest) k → checkLimit * k ≤ n
+      → (head ≡ seat → Answered (own .first + seat) (q .address) (d .items)) → ((head ≡ seat → ⊥) → Asks seat q (d .farm))
+      → ((f : Farm) → Lined rest f → Ends (next f)) → Ends (andThen (andThen d (advanced own rest)) next)
+  unfolding andThen
+  front head rest d next k at w a kept ih = split (eqb head seat) (λ e. done (eqb-true head seat e)) (λ e. by k at w (eqb-false head seat e))
+    where
+      done : head ≡ seat → Ends (andThen (andThen d (advanced own rest)) next)
+      done e = gone (more-left (next (advanced own rest (d .farm) .farm) .items) (more-left (advanced own rest (d .farm) .items) (a e)))
 
-line-due : (own : FarmSheet) (seat n : ℕ) (line : List ℕ) (f : Farm) → Lined seat n line f → After (Due seat n) (own .first + seat) (settleLine own line f)
-unfolding settleLine headVerdict
-line-due own seat n [] f d = absurd (nobody (subst (λ (x : List ℕ). Stands seat x (d .near .place)) (d .isLine) (d .near .at)))
-  where
-    nobody : {k : ℕ} → Stands seat [] k → ⊥
-    nobody a = elim a [ ]
-line-due own seat n (head ∷ rest) f d =
-    serve-due own seat n head rest f (headVerdict own f head) (settleLine own rest) (d .isLine) (d .near)
-    (verdict-allows n (d .near .place) f (socketRules own (f .rows) (wanted (rowAt (f .rows) head))) (d .near .runs) (d .near .within))
-    (line-due own seat n rest)
+      by : (k : ℕ) → Stands seat (head ∷ rest) k → checkLimit * k ≤ n → (head ≡ seat → ⊥) → Ends (andThen (andThen d (advanced own rest)) next)
+      by zero (first e) w ne = absurd (ne (sym e))
+      by (suc j) (behind b) w ne =
+          then-after {P = Lined rest} (andThen d (advanced own rest)) next
+          (waits (record { isLine = advanced-anew own rest (d .farm) .line; near = advanced-near own seat q n rest (d .farm) j b w (kept ne) }))
+          ih
 
--- settling answers the row, or leaves it due
-pub settle-due : (own : FarmSheet) (seat n : ℕ) (f : Farm) → Near seat n f → After (Due seat n) (own .first + seat) (settle own f)
-settle-due own seat n f d = line-due own seat n (f .line) f (record { isLine = refl; near = d })
+  serve-due : (head : ℕ) (rest : List ℕ) (f : Farm) (v : HeadVerdict) (next : Farm → Done) → f .line ≡ head ∷ rest → (d : Near seat q n f)
+      → Allows seat n (d .place) (f .clock .ticks) v → ((g : Farm) → Lined rest g → Ends (next g)) → Ends (serve own head rest f v next)
+  unfolding Allows
+  serve-due head rest f Pending next l d w ih = waits (record { near = d; running = w })
+  serve-due head rest f (Answer code) next l d w ih =
+      front head rest _ next (d .place) (subst (λ (x : List ℕ). Stands seat x (d .place)) l (d .at)) w
+      (λ e. rw e (rw (ap wantedBy (d .asks)) (answer-in own seat (q .address) code f)))
+      (λ ne. rw (answered-row own head (wanted (rowAt (f .rows) head)) code f seat (λ e. ne (sym e))) (d .asks))
+      ih
+  serve-due head rest f (RunOut check) next l d w ih =
+      let e : Done = closedWhere own (isSilent check (f .marks)) f in
+      let a : Farm → Done = answered own head (wanted (rowAt (f .rows) head)) accepted in
+      let k : Asks seat q (e .farm) =
+          closings-keep own (isSilent check (f .marks)) (Asks seat q) f (d .asks)
+          (λ i x t p. rw (closed-rows own i x)
+          (rw (row-other (x .rows) i seat freeRow
+          (λ z. false≢true (sym (spared seat q check (f .marks) (rowAt (x .rows) seat) (w .1) p) ∙ subst (λ (j : ℕ). isSilent check (f .marks) j (rowAt (x .rows) j) ≡ true) (sym z) t))) p))
+          in
+      front head rest (andThen e a) next (d .place) (subst (λ (x : List ℕ). Stands seat x (d .place)) l (d .at)) (w .0)
+      (λ z. rw (then-items e a) (more-right (e .items) (rw z (rw (ap wantedBy (d .asks)) (answer-in own seat (q .address) accepted (e .farm))))))
+      (λ ne. rw (then-farm e a, answered-row own head (wanted (rowAt (f .rows) head)) accepted (e .farm) seat (λ z. ne (sym z))) k)
+      ih
+
+  line-due : (line : List ℕ) (f : Farm) → Lined line f → Ends (settleLine own line f)
+  unfolding settleLine headVerdict
+  line-due [] f d = absurd (nobody (subst (λ (x : List ℕ). Stands seat x (d .near .place)) (d .isLine) (d .near .at)))
+    where
+      nobody : {k : ℕ} → Stands seat [] k → ⊥
+      nobody a = elim a [ ]
+  line-due (head ∷ rest) f d =
+      serve-due head rest f (headVerdict own f head) (settleLine own rest) (d .isLine) (d .near)
+      (verdict-allows seat n (d .near .place) f (socketRules own (f .rows) (wanted (rowAt (f .rows) head)))
+      (λ check e. rules-spare own (f .rows) (wanted (rowAt (f .rows) head)) seat q check (d .near .asks) e) (d .near .runs) (d .near .within))
+      (line-due rest)
+
+  -- settling answers the row, or leaves it due
+  pub settle-due : (f : Farm) → Near seat q n f → Ends (settle own f)
+  settle-due f d = line-due (f .line) f (record { isLine = refl; near = d })

@@ -5,11 +5,12 @@ use Prim.Native.Nat.{ℕ, zero, suc, _+_, _*_, _≤_, _<_}
 use native.Mathlib.Bridge.{le-by-compare, IsLe}
 use mathlib.Core.Path.{_≡_, refl, sym, ap, subst, _∙_}
 use mathlib.Core.Bool.{Bool, true, false, false≢true}
-use mathlib.Core.List.{List, [], _∷_, _++_}
+use mathlib.Core.List.{List, [], _∷_, _++_, map}
 use native.Mathlib.Nat.{mul-suc, mul-le-mul-left}
 use native.Mathlib.Omega.{arith}
 use lib.Dec.{eqb, leb, ltb}
-use lib.ListN.{getD, length, take}
+use lib.ListN.{getD, set, length, take, length-take}
+use lib.Seq.{getD-take}
 use borrow.Author.Tests.{leb-false, eqb-true, eqb-false, lt-ltb}
 use Rattle.octets.specs.Choice.{pick, both, unless}
 use Rattle.octets.specs.Search.{firstAt}
@@ -23,20 +24,21 @@ use Rattle.kinds.specs.declared.RowState.the-variants.{Free, Fresh, Waiting, Ac
 use Rattle.kinds.specs.declared.Clock.{Clock}
 use Rattle.kinds.specs.declared.Decision.{Decision}
 use Rattle.kinds.specs.declared.Decision.the-variants.{Now, Ask}
-use Rattle.wire.specs.declared.payload.Ends.{Ends}
+use Rattle.wire.specs.declared.payload.Ends.{Ends as Both}
 use Rattle.wire.specs.Header.{closes}
 use Rattle.model.specs.FarmSheet.{FarmSheet, TargetIs, stranger, unreachable, reachable}
-use Rattle.model.specs.Row.{checkLimit, mostTicks, stepped, clockOf, rowAt, waitingRow, activeAs, isOpen, isFree, atLimit, freshRow}
+use Rattle.model.specs.Row.{checkLimit, mostTicks, stepped, clockOf, rowAt, freeRow, waitingRow, activeAs, isOpen, isFreeState, isFree, older, olderState, atLimitState, atLimit, freshRow}
 use Rattle.model.specs.Stream.{Event, inputEnded, wrong, finished, skipped, Taken}
 use Rattle.model.specs.Farm.{Farm, Done, does, quietly, andThen, withRow, withLine, withMarks, closed, closedWhere}
 use Rattle.model.specs.Line.{accepted, decide, answered, advanced, started, joined, isEmpty, without, leftBy, left, isAsked, marked, settle}
-use Rattle.model.specs.Bytes.{decidedBy, requested, toTarget, diagnosed, messaged, faulted, eventDone, heard, takenBy, bytesDone}
+use Rattle.model.specs.Bytes.{decidedBy, requested, toTarget, diagnosed, messaged, faulted, eventDone, heardRow, heard, takenBy, bytesDone}
 use Rattle.model.specs.Move.{Own, connect, bytes, peerClosed, linkLost, datagram, controller, Held, Given, Move, refused, gave, moves, connectedAt, connects, tookBytes, bytesBy, peerGone, clockRun, aged, ticked, datagramMove, toTester, controllerMove, isTarget, mostUser, move, tickMove}
 use Rattle.model.specs.Table.{heldBy, itemsBy}
 use Rattle.model.specs.Words.{Stands, first, behind, Answered, answers}
 use Rattle.model.proofs.Cases.{pick-case, unless-case, split}
-use Rattle.model.proofs.Seats.{closings-keep, closed-line, closed-clock}
-use Rattle.model.proofs.Due.{After, gone, waits, then-after, Near, Due, near-same, advanced-near, settle-due}
+use Rattle.model.proofs.Seats.{closings-keep, closed-rows, closed-line, closed-clock}
+use Rattle.model.proofs.Rows.{row-other, row-map}
+use Rattle.model.proofs.Due.{After, gone, waits, then-after, Asks, Near, Due, Ends, Alike, near-same, answered-row, Passes, first-at, advanced-near, settle-due}
 
 -- the call cuts the seat off
 abbrev pub isCut : ℕ → Own → Bool
@@ -47,54 +49,70 @@ isCut seat linkLost = true
 isCut seat (datagram input) = false
 isCut seat (controller from to user) = false
 
--- ---- what leaves line and clock alone
+-- ---- what another row's call leaves alone: line, clock and this row
 
-record Still (f : Farm) (d : Done) : Type 0 where
-  line : d .farm .line ≡ f .line
-  clock : d .farm .clock ≡ f .clock
+pub answered-line : (own : FarmSheet) (i address code : ℕ) (f : Farm)
+    → (answered own i address code f .farm .line ≡ f .line) × (answered own i address code f .farm .clock ≡ f .clock)
+unfolding answered andThen
+answered-line own i address code f =
+    pick-case (λ (d : Done). (d .farm .line ≡ f .line) × (d .farm .clock ≡ f .clock)) (eqb code accepted) _ _ (λ _. (refl, refl))
+    (λ _. (closed-line own i f, closed-clock own i f))
 
-still-after : {seat n : ℕ} (row : ℕ) (f : Farm) (d : Done) → Still f d → Near seat n f → After (Near seat n) row d
-still-after row f d s w = waits (near-same f (d .farm) (s .line) (s .clock) w)
+gone-still : (own : FarmSheet) (seat i : ℕ) → (seat ≡ i → ⊥) → (f : Farm) → Alike seat f (closed own i f .farm)
+gone-still own seat i ne f =
+    record {
+      line = closed-line own i f;
+      clock = closed-clock own i f;
+      row = ap (λ (x : List Row). rowAt x seat) (closed-rows own i f) ∙ row-other (f .rows) i seat freeRow ne;
+    }
 
-closed-still : (own : FarmSheet) (i : ℕ) (f : Farm) → Still f (closed own i f)
-closed-still own i f = record { line = closed-line own i f; clock = closed-clock own i f }
+module _ (own : FarmSheet) (seat i : ℕ) (ne : seat ≡ i → ⊥) (f : Farm) where
+  abbrev Still : Done → Type 0
+  Still d = Alike seat f (d .farm)
 
--- something is said, then the row closes
-said-closed : (own : FarmSheet) (i : ℕ) (d : Done) (f : Farm) → Still f d → Still f (andThen d (closed own i))
-unfolding andThen
-said-closed own i d f s =
-    record { line = closed-line own i (d .farm) ∙ s .line; clock = closed-clock own i (d .farm) ∙ s .clock }
+  -- something is said, then that row closes
+  closed-still : (d : Done) → Still d → Still (andThen d (closed own i))
+  unfolding andThen
+  closed-still d s =
+      record {
+        line = closed-line own i (d .farm) ∙ s .line;
+        clock = closed-clock own i (d .farm) ∙ s .clock;
+        row = ap (λ (x : List Row). rowAt x seat) (closed-rows own i (d .farm)) ∙ row-other (d .farm .rows) i seat freeRow ne ∙ s .row;
+      }
 
-answered-still : (own : FarmSheet) (i address code : ℕ) (f : Farm) → Still f (answered own i address code f)
-unfolding answered
-answered-still own i address code f =
-    pick-case (Still f) (eqb code accepted) _ _ (λ e. record { line = refl; clock = refl })
-    (λ e. said-closed own i _ f (record { line = refl; clock = refl }))
+  same : Alike seat f f
+  same = record { line = refl; clock = refl; row = refl }
 
-target-still : (own : FarmSheet) (i : ℕ) (e : Ends) (x : TargetIs) (f : Farm) → Still f (toTarget own i e x f)
-target-still own i e stranger f = record { line = refl; clock = refl }
-target-still own i e unreachable f = record { line = refl; clock = refl }
-target-still own i e reachable f = record { line = refl; clock = refl }
+  answered-still : (address code : ℕ) → Still (answered own i address code f)
+  answered-still address code =
+      record { line = keeps .0; clock = keeps .1; row = answered-row own i address code f seat ne }
+    where
+      keeps : (answered own i address code f .farm .line ≡ f .line) × (answered own i address code f .farm .clock ≡ f .clock)
+      keeps = answered-line own i address code f
 
-diagnosed-still : (own : FarmSheet) (i : ℕ) (e : Ends) (f : Farm) → Still f (diagnosed own i e f)
-unfolding diagnosed
-diagnosed-still own i e f =
-    pick-case (Still f) (activeAs (e .source) (rowAt (f .rows) i)) _ _ (λ _. target-still own i e (own .target (e .target)) f)
-    (λ _. said-closed own i _ f (record { line = refl; clock = refl }))
+  target-still : (e : Both) (x : TargetIs) → Still (toTarget own i e x f)
+  target-still e stranger = same
+  target-still e unreachable = same
+  target-still e reachable = same
 
-faulted-still : (own : FarmSheet) (i : ℕ) (x : Fault) (f : Farm) → Still f (faulted own i x f)
-faulted-still own i x f =
-    pick-case (Still f) (closes x) _ _ (λ _. said-closed own i _ f (record { line = refl; clock = refl })) (λ _. record { line = refl; clock = refl })
+  diagnosed-still : (e : Both) → Still (diagnosed own i e f)
+  unfolding diagnosed
+  diagnosed-still e =
+      pick-case Still (activeAs (e .source) (rowAt (f .rows) i)) _ _ (λ _. target-still e (own .target (e .target))) (λ _. closed-still _ same)
 
-marked-still : (own : FarmSheet) (i address : ℕ) (f : Farm) → Still f (quietly (marked own i address f))
-unfolding marked
-marked-still own i address f =
-    pick-case (λ (g : Farm). Still f (quietly g)) (both (activeAs address (rowAt (f .rows) i)) (isAsked own f i)) _ _
-    (λ _. record { line = refl; clock = refl }) (λ _. record { line = refl; clock = refl })
+  faulted-still : (x : Fault) → Still (faulted own i x f)
+  faulted-still x = pick-case Still (closes x) _ _ (λ _. closed-still _ same) (λ _. same)
 
-heard-still : (i : ℕ) (t : Taken) (f : Farm) → Still f (quietly (heard i t f))
-unfolding heard
-heard-still i t f = record { line = refl; clock = refl }
+  marked-still : (address : ℕ) → Still (quietly (marked own i address f))
+  unfolding marked
+  marked-still address =
+      pick-case (λ (g : Farm). Alike seat f g) (both (activeAs address (rowAt (f .rows) i)) (isAsked own f i)) _ _
+      (λ _. record { line = refl; clock = refl; row = refl }) (λ _. same)
+
+  heard-still : (t : Taken) → Alike seat f (heard i t f)
+  unfolding heard
+  heard-still t =
+      record { line = refl; clock = refl; row = row-other (f .rows) i seat (heardRow (t .count) (t .stream) (rowAt (f .rows) i)) ne }
 
 -- ---- another joins behind
 
@@ -106,43 +124,52 @@ not-empty : {seat k : ℕ} {l : List ℕ} → Stands seat l k → isEmpty l ≡ 
 not-empty (first e) = refl
 not-empty (behind a) = refl
 
-module _ (own : FarmSheet) (seat n : ℕ) where
+module _ (own : FarmSheet) (seat : ℕ) (q : Request) (n : ℕ) (i : ℕ) (ne : seat ≡ i → ⊥) where
   abbrev Goes : Done → Type 0
-  Goes d = After (Near seat n) (own .first + seat) d
+  Goes d = After (Near seat q n) (own .first + seat) (q .address) d
 
-  joined-due : (i : ℕ) (q : Request) (f : Farm) → Near seat n f → Goes (joined own i q f)
+  still-goes : (f : Farm) (d : Done) → Alike seat f (d .farm) → Near seat q n f → Goes d
+  still-goes f d s w = waits (near-same f (d .farm) s w)
+
+  joined-due : (r : Request) (f : Farm) → Near seat q n f → Goes (joined own i r f)
   unfolding joined
-  joined-due i q f d =
+  joined-due r f d =
       rw (not-empty (d .at))
-      (waits (record { place = d .place; at = stands-append i (d .at); runs = d .runs; within = d .within }))
+      (waits
+      (record {
+        place = d .place;
+        at = stands-append i (d .at);
+        runs = d .runs;
+        within = d .within;
+        asks = rw (row-other (f .rows) i seat (waitingRow r) ne) (d .asks);
+      }))
 
-  decided-due : (i : ℕ) (q : Request) (x : Decision) (f : Farm) → Near seat n f → Goes (decidedBy own i q x f)
-  decided-due i q (Now code) f d = still-after (own .first + seat) f _ (answered-still own i (q .address) code f) d
-  decided-due i q (Ask check) f d = joined-due i q f d
+  decided-due : (r : Request) (x : Decision) (f : Farm) → Near seat q n f → Goes (decidedBy own i r x f)
+  decided-due r (Now code) f d = still-goes f _ (answered-still own seat i ne f (r .address) code) d
+  decided-due r (Ask check) f d = joined-due r f d
 
-  requested-due : (i : ℕ) (q : Request) (f : Farm) → Near seat n f → Goes (requested own i q f)
+  requested-due : (r : Request) (f : Farm) → Near seat q n f → Goes (requested own i r f)
   unfolding requested
-  requested-due i q f d = decided-due i q (decide own (f .rows) i q) f d
+  requested-due r f d = decided-due r (decide own (f .rows) i r) f d
 
-  messaged-due : (i kind : ℕ) (payload : List ℕ) (f : Farm) → Near seat n f → Goes (messaged own i kind payload f)
-  messaged-due i kind payload f d =
-      pick-case Goes (eqb kind 0x0005) _ _ (λ _. requested-due i _ f d)
-      (λ _. pick-case Goes (eqb kind 0x0008) _ _ (λ _. still-after (own .first + seat) f _ (marked-still own i _ f) d)
-      (λ _. pick-case Goes (eqb kind 0x8001) _ _ (λ _. still-after (own .first + seat) f _ (diagnosed-still own i _ f) d) (λ _. waits d)))
+  messaged-due : (kind : ℕ) (payload : List ℕ) (f : Farm) → Near seat q n f → Goes (messaged own i kind payload f)
+  messaged-due kind payload f d =
+      pick-case Goes (eqb kind 0x0005) _ _ (λ _. requested-due _ f d)
+      (λ _. pick-case Goes (eqb kind 0x0008) _ _ (λ _. still-goes f _ (marked-still own seat i ne f _) d)
+      (λ _. pick-case Goes (eqb kind 0x8001) _ _ (λ _. still-goes f _ (diagnosed-still own seat i ne f _) d) (λ _. waits d)))
 
-  event-due : (i : ℕ) (e : Event) (room : List ℕ) (f : Farm) → Near seat n f → Goes (eventDone own i e room f)
+  event-due : (e : Event) (room : List ℕ) (f : Farm) → Near seat q n f → Goes (eventDone own i e room f)
   unfolding eventDone
-  event-due i inputEnded room f d = waits d
-  event-due i (wrong fault) room f d = still-after (own .first + seat) f _ (faulted-still own i fault f) d
-  event-due i (finished kind size) room f d = messaged-due i kind (take size room) f d
-  event-due i (skipped size) room f d = waits d
+  event-due inputEnded room f d = waits d
+  event-due (wrong fault) room f d = still-goes f _ (faulted-still own seat i ne f fault) d
+  event-due (finished kind size) room f d = messaged-due kind (take size room) f d
+  event-due (skipped size) room f d = waits d
 
-  bytes-due : (i : ℕ) (t : Taken) (f : Farm) → Near seat n f → After (Due seat n) (own .first + seat) (bytesDone own i t f)
+  bytes-due : (t : Taken) (f : Farm) → Near seat q n f → Ends own seat q n (bytesDone own i t f)
   unfolding bytesDone
-  bytes-due i t f d =
-      let s : Still f (quietly (heard i t f)) = heard-still i t f in
-      then-after {P = Near seat n} (eventDone own i (t .event) (t .stream .room) (heard i t f)) (settle own)
-      (event-due i (t .event) (t .stream .room) (heard i t f) (near-same f (heard i t f) (s .line) (s .clock) d)) (settle-due own seat n)
+  bytes-due t f d =
+      then-after {P = Near seat q n} (eventDone own i (t .event) (t .stream .room) (heard i t f)) (settle own)
+      (event-due (t .event) (t .stream .room) (heard i t f) (near-same f (heard i t f) (heard-still own seat i ne f t) d)) (settle-due own seat q n)
 
 -- ---- another leaves: the row is not further back, and nearer if that one was the head
 
@@ -151,39 +178,39 @@ record Nearer (seat x : ℕ) (l : List ℕ) (k : ℕ) : Type 0 where
   at : Stands seat (without x l) place
   near : place ≤ k
 
-leaves : (seat x : ℕ) → (x ≡ seat → ⊥) → (l : List ℕ) (k : ℕ) → Stands seat l k → Nearer seat x l k
+leaves : (seat x : ℕ) → (seat ≡ x → ⊥) → (l : List ℕ) (k : ℕ) → Stands seat l k → Nearer seat x l k
 leaves seat x ne (y ∷ l) zero (first e) =
-    split (eqb x y) (λ t. absurd (ne (eqb-true x y t ∙ sym e))) (λ f. record { place = 0; at = rw f (first e); near = omega arith })
+    split (eqb x y) (λ t. absurd (ne (e ∙ sym (eqb-true x y t)))) (λ f. record { place = 0; at = rw f (first e); near = omega arith })
 leaves seat x ne (y ∷ l) (suc k) (behind a) =
     let b = leaves seat x ne l k a in
     split (eqb x y) (λ t. record { place = b .place; at = rw t (b .at); near = omega (arith, b .near) })
     (λ f. record { place = suc (b .place); at = rw f (behind (b .at)); near = omega (arith, b .near) })
 
-module _ (own : FarmSheet) (seat n : ℕ) where
-  left-due : (x : ℕ) → (x ≡ seat → ⊥) → (line : List ℕ) (k : ℕ) (f : Farm) → f .clock .ticks ≤ checkLimit → Stands seat line k
-      → checkLimit * k + checkLimit ≤ n + f .clock .ticks → Goes own seat n (leftBy own x line f)
-  left-due x ne (head ∷ rest) zero f r (first e) w =
-      pick-case (Goes own seat n) (eqb x head) _ _ (λ t. absurd (ne (eqb-true x head t ∙ sym e)))
-      (λ t. waits (record { place = 0; at = first e; runs = r; within = w }))
-  left-due x ne (head ∷ rest) (suc j) f r (behind b) w =
+module _ (own : FarmSheet) (seat : ℕ) (q : Request) (n : ℕ) (x : ℕ) (ne : seat ≡ x → ⊥) where
+  left-due : (line : List ℕ) (k : ℕ) (f : Farm) → f .clock .ticks ≤ checkLimit → Stands seat line k
+      → checkLimit * k + checkLimit ≤ n + f .clock .ticks → Asks seat q f → Goes own seat q n x ne (leftBy own x line f)
+  left-due (head ∷ rest) zero f r (first e) w a =
+      pick-case (Goes own seat q n x ne) (eqb x head) _ _ (λ t. absurd (ne (e ∙ sym (eqb-true x head t))))
+      (λ t. waits (record { place = 0; at = first e; runs = r; within = w; asks = a }))
+  left-due (head ∷ rest) (suc j) f r (behind b) w a =
       let c = leaves seat x ne rest j b in
-      pick-case (Goes own seat n) (eqb x head) _ _ (λ t. waits (advanced-near own seat n rest f j b (omega arith)))
+      pick-case (Goes own seat q n x ne) (eqb x head) _ _ (λ t. waits (advanced-near own seat q n rest f j b (omega arith) a))
       (λ t. waits
       (record {
         place = suc (c .place);
         at = behind (c .at);
         runs = r;
         within = omega (arith, mul-le-mul-left checkLimit (c .near), mul-suc checkLimit j, mul-suc checkLimit (c .place));
+        asks = a;
       }))
 
-  peer-due : (x : ℕ) → (x ≡ seat → ⊥) → (f : Farm) → Near seat n f → After (Due seat n) (own .first + seat) (peerGone own x f)
+  peer-due : (f : Farm) → Near seat q n f → Ends own seat q n (peerGone own x f)
   unfolding peerGone left
-  peer-due x ne f d =
-      let s : Still f (closed own x f) = closed-still own x f in
-      then-after {P = Near seat n} (andThen (closed own x f) (left own x)) (settle own)
-      (then-after {P = Near seat n} (closed own x f) (left own x) (still-after (own .first + seat) f (closed own x f) s d)
-      (λ g e. left-due x ne (g .line) (e .place) g (e .runs) (e .at) (e .within)))
-      (settle-due own seat n)
+  peer-due f d =
+      then-after {P = Near seat q n} (andThen (closed own x f) (left own x)) (settle own)
+      (then-after {P = Near seat q n} (closed own x f) (left own x) (waits (near-same f (closed own x f .farm) (gone-still own seat x ne f) d))
+      (λ g e. left-due (g .line) (e .place) g (e .runs) (e .at) (e .within) (e .asks)))
+      (settle-due own seat q n)
 
 -- ---- ticks
 
@@ -204,8 +231,12 @@ run-line : (l : List ℕ) (f : Farm) → clockRun l f .line ≡ f .line
 run-line [] f = refl
 run-line (x ∷ l) f = refl
 
-module _ (own : FarmSheet) (seat n : ℕ) where
-  tick-near : (f : Farm) → Due seat (suc n) f → Near seat n (aged (clockRun (f .line) f))
+run-rows : (l : List ℕ) (f : Farm) → clockRun l f .rows ≡ f .rows
+run-rows [] f = refl
+run-rows (x ∷ l) f = refl
+
+module _ (own : FarmSheet) (seat : ℕ) (q : Request) (n : ℕ) where
+  tick-near : (f : Farm) → Due seat q (suc n) f → Near seat q n (aged (clockRun (f .line) f))
   tick-near f d =
       let c : clockRun (f .line) f .clock ≡ clockOf (f .clock .ticks + 1) =
           clock-runs f (d .near .at) ∙ stepped-is (f .clock) (d .running) in
@@ -215,17 +246,20 @@ module _ (own : FarmSheet) (seat n : ℕ) where
         at = subst (λ (x : List ℕ). Stands seat x (d .near .place)) (sym (run-line (f .line) f)) (d .near .at);
         runs = omega (arith, d .running);
         within = omega (arith, d .near .within);
+        asks = ap (λ (x : List Row). rowAt (map older x) seat .state) (run-rows (f .line) f)
+            ∙ ap (λ (r : Row). r .state) (row-map older refl (f .rows) seat) ∙ ap olderState (d .near .asks);
       }
 
-  -- a tick brings the answer one tick nearer
-  tick-due : (f : Farm) → Due seat (suc n) f → After (Due seat n) (own .first + seat) (ticked own f)
+  -- a tick brings the answer one tick nearer: no limit closes a row that waits
+  tick-due : (f : Farm) → Due seat q (suc n) f → Ends own seat q n (ticked own f)
   unfolding ticked
   tick-due f d =
-      then-after {P = Near seat n} (closedWhere own (λ i r. atLimit r) (aged (clockRun (f .line) f))) (settle own)
+      then-after {P = Near seat q n} (closedWhere own (λ i r. atLimit r) (aged (clockRun (f .line) f))) (settle own)
       (waits
-      (closings-keep own (λ i r. atLimit r) (Near seat n) (aged (clockRun (f .line) f)) (tick-near f d)
-      (λ i x t e. near-same x (closed own i x .farm) (closed-line own i x) (closed-clock own i x) e)))
-      (settle-due own seat n)
+      (closings-keep own (λ i r. atLimit r) (Near seat q n) (aged (clockRun (f .line) f)) (tick-near f d)
+      (λ i x t e. near-same x (closed own i x .farm)
+      (gone-still own seat i (λ z. false≢true (sym (ap atLimitState (e .asks)) ∙ subst (λ (j : ℕ). atLimit (rowAt (x .rows) j) ≡ true) (sym z) t)) x) e)))
+      (settle-due own seat q n)
 
 -- ---- a call of the farm
 
@@ -234,22 +268,41 @@ abbrev pub doneBy : Held → Move → Done
 doneBy h m = does (heldBy h m .farm) (itemsBy m)
 
 -- the move answers the row, or leaves it due in n ticks
-abbrev pub Moved : FarmSheet → (seat n : ℕ) → Held → Move → Type 0
-Moved own seat n h m = After (Due seat n) (own .first + seat) (doneBy h m)
+abbrev pub Moved : FarmSheet → ℕ → Request → ℕ → Held → Move → Type 0
+Moved own seat q n h m = Ends own seat q n (doneBy h m)
 
-module _ (own : FarmSheet) (seat n : ℕ) (h : Held) (d : Due seat n (h .farm)) where
+-- the first free row of the farm's is not one that waits
+free-other : (rows : List Row) (k seat i : ℕ) (q : Request) → rowAt rows seat .state ≡ Waiting q → firstAt isFree 0 (take k rows) ≡ At i → seat ≡ i → ⊥
+free-other rows k seat i q w e z =
+    let p : Passes isFree (take k rows) i = first-at isFree (take k rows) i e in
+    let m : length (take k rows) ≤ k = omega (arith, length-take k rows) in
+    let t : isFree (rowAt rows i) ≡ true = ap isFree (sym (getD-take k rows i freeRow (omega (arith, p .within)))) ∙ p .passes in
+    false≢true (sym (ap isFreeState w) ∙ subst (λ (j : ℕ). isFree (rowAt rows j) ≡ true) (sym z) t)
+
+module _ (own : FarmSheet) (seat : ℕ) (q : Request) (n : ℕ) (h : Held) (d : Due seat q n (h .farm)) where
   abbrev Moves : Move → Type 0
-  Moves m = Moved own seat n h m
+  Moves m = Moved own seat q n h m
 
-  connect-moved : (x : Found) → Moves (connectedAt own h x)
-  connect-moved Nothing = waits d
-  connect-moved (At i) = waits (record { near = near-same (h .farm) (withRow (h .farm) i freshRow) refl refl (d .near); running = d .running })
+  connect-moved : (x : Found) → ((i : ℕ) → x ≡ At i → seat ≡ i → ⊥) → Moves (connectedAt own h x)
+  connect-moved Nothing k = waits d
+  connect-moved (At i) k =
+      waits
+      (record {
+        near = near-same (h .farm) (withRow (h .farm) i freshRow)
+            (record { line = refl; clock = refl; row = row-other (h .farm .rows) i seat freshRow (k i refl) }) (d .near);
+        running = d .running;
+      })
 
-  bytes-moved : (i : ℕ) (input : List ℕ) (x : RowState) → Moves (bytesBy own h i input x)
-  bytes-moved i input Free = waits d
-  bytes-moved i input (Fresh age) = bytes-due own seat n i (takenBy i (getD (h .rooms) i []) input (h .farm)) (h .farm) (d .near)
-  bytes-moved i input (Waiting q) = waits d
-  bytes-moved i input (Active a idle) = bytes-due own seat n i (takenBy i (getD (h .rooms) i []) input (h .farm)) (h .farm) (d .near)
+  -- bytes for the row itself are refused, for it waits
+  bytes-moved : (i : ℕ) (input : List ℕ) (x : RowState) → rowAt (h .farm .rows) i .state ≡ x → Moves (bytesBy own h i input x)
+  bytes-moved i input Free e = waits d
+  bytes-moved i input (Fresh age) e =
+      bytes-due own seat q n i (λ z. let y : Fresh age ≡ Waiting q = sym e ∙ rw (← z) (d .near .asks) in let o : _≡_ {A = ℕ} 0 1 = cc in omega arith)
+      (takenBy i (getD (h .rooms) i []) input (h .farm)) (h .farm) (d .near)
+  bytes-moved i input (Waiting r) e = waits d
+  bytes-moved i input (Active a idle) e =
+      bytes-due own seat q n i (λ z. let y : Active a idle ≡ Waiting q = sym e ∙ rw (← z) (d .near .asks) in let o : _≡_ {A = ℕ} 0 1 = cc in omega arith)
+      (takenBy i (getD (h .rooms) i []) input (h .farm)) (h .farm) (d .near)
 
   tester-moved : (from to : ℕ) (user : List ℕ) (x : Found) → Moves (toTester own h from to user x)
   tester-moved from to user Nothing = waits d
@@ -260,24 +313,28 @@ module _ (own : FarmSheet) (seat n : ℕ) (h : Held) (d : Due seat n (h .farm)) 
   controller-moved from to user =
       unless-case Moves (leb 1 (length user)) _ _ (λ _. waits d)
       (λ _. unless-case Moves (leb (length user) mostUser) _ _ (λ _. waits d)
-      (λ _. unless-case Moves (isTarget (own .target from)) _ _ (λ _. waits d) (λ _. tester-moved from to user (firstAt (activeAs to) 0 (h .farm .rows)))))
+      (λ _. unless-case Moves (isTarget (own .target from)) _ _ (λ _. waits d)
+      (λ _. tester-moved from to user (firstAt (activeAs to) 0 (h .farm .rows)))))
 
   -- every call of the farm but a cut
   pub own-moved : (c : Own) → isCut seat c ≡ false → Moves (move own h c)
   unfolding move connects datagramMove
-  own-moved connect e = connect-moved (firstAt isFree 0 (take (own .rows) (h .farm .rows)))
-  own-moved (bytes i input) e = bytes-moved i input (rowAt (h .farm .rows) i .state)
+  own-moved connect e =
+      connect-moved (firstAt isFree 0 (take (own .rows) (h .farm .rows)))
+      (λ i z. free-other (h .farm .rows) (own .rows) seat i q (d .near .asks) z)
+  own-moved (bytes i input) e = bytes-moved i input (rowAt (h .farm .rows) i .state) refl
   own-moved (peerClosed i) e =
-      pick-case Moves (isOpen (rowAt (h .farm .rows) i)) _ _ (λ _. peer-due own seat n i (eqb-false i seat e) (h .farm) (d .near)) (λ _. waits d)
+      pick-case Moves (isOpen (rowAt (h .farm .rows) i)) _ _
+      (λ _. peer-due own seat q n i (λ z. eqb-false i seat e (sym z)) (h .farm) (d .near)) (λ _. waits d)
   own-moved linkLost e = absurd (false≢true (sym e))
   own-moved (datagram input) e = waits d
   own-moved (controller from to user) e = controller-moved from to user
 
 -- and every tick
-pub tick-moved : (own : FarmSheet) (seat n : ℕ) (h : Held) → Due seat (suc n) (h .farm) → Moved own seat n h (tickMove own h)
+pub tick-moved : (own : FarmSheet) (seat : ℕ) (q : Request) (n : ℕ) (h : Held) → Due seat q (suc n) (h .farm) → Moved own seat q n h (tickMove own h)
 unfolding tickMove
-tick-moved own seat n h d = tick-due own seat n (h .farm) d
+tick-moved own seat q n h d = tick-due own seat q n (h .farm) d
 
 -- no answer is overdue
-pub never-now : {seat : ℕ} (f : Farm) → Due seat 0 f → ⊥
+pub never-now : {seat : ℕ} {q : Request} (f : Farm) → Due seat q 0 f → ⊥
 never-now f d = omega (arith, d .running, d .near .within)

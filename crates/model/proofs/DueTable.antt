@@ -13,6 +13,7 @@ use lib.Seq.{getD-set-same, getD-set-other}
 use borrow.Author.Tests.{eqb-true, eqb-false, ne-eqb, eq-eqb, lt-ltb}
 use Rattle.octets.specs.Choice.{pick, both, unless, one}
 use Rattle.kinds.specs.declared.Item.{Item}
+use Rattle.kinds.specs.declared.Request.{Request}
 use Rattle.kinds.specs.declared.FarmNo.{FarmNo}
 use Rattle.sheet.specs.declared.rows.Owner.{Owner}
 use Rattle.sheet.specs.declared.rows.Owner.the-variants.{Seat, Nobody}
@@ -63,14 +64,14 @@ slot-tick s i (x ∷ t) (suc g) h =
     let e : suc i + g ≡ i + suc g = omega arith in
     slot-tick s (suc i) t g (le-of-suc-le-suc h) ∙ ap (λ (k : ℕ). heldBy (slot t g) (slotTick s k (slot t g))) e
 
-tick-entries : (row : ℕ) (s : List ℕ) (i : ℕ) (t : Table) (g : ℕ) → g < length t → Answered row (itemsBy (slotTick s (i + g) (slot t g)))
-    → Answered row (tickItems s i t)
-tick-entries row s i [] g h a = absurd (not-suc-le-zero h)
-tick-entries row s i (x ∷ t) zero h a = more-left (tickItems s (suc i) t) (rw add-zero at a)
-tick-entries row s i (x ∷ t) (suc g) h a =
+tick-entries : (row address : ℕ) (s : List ℕ) (i : ℕ) (t : Table) (g : ℕ) → g < length t → Answered row address (itemsBy (slotTick s (i + g) (slot t g)))
+    → Answered row address (tickItems s i t)
+tick-entries row address s i [] g h a = absurd (not-suc-le-zero h)
+tick-entries row address s i (x ∷ t) zero h a = more-left (tickItems s (suc i) t) (rw add-zero at a)
+tick-entries row address s i (x ∷ t) (suc g) h a =
     let e : i + suc g ≡ suc i + g = omega arith in
     more-right (itemsBy (slotTick s i x))
-    (tick-entries row s (suc i) t g (le-of-suc-le-suc h) (subst (λ (k : ℕ). Answered row (itemsBy (slotTick s k (slot t g)))) e a))
+    (tick-entries row address s (suc i) t g (le-of-suc-le-suc h) (subst (λ (k : ℕ). Answered row address (itemsBy (slotTick s k (slot t g)))) e a))
 
 -- ---- the refusals that come before
 
@@ -112,7 +113,7 @@ not-everyones s (messageFrom f from to user) n e = ones-farm s f (controller fro
 
 -- ---- one farm's view of a call
 
-module _ (s : List ℕ) (g seat row : ℕ) (owner : ownerOf s row ≡ Seat (farmNo g) seat) where
+module _ (s : List ℕ) (g seat row : ℕ) (q : Request) (owner : ownerOf s row ≡ Seat (farmNo g) seat) where
   pub inside : g < farmCount s
   inside = owner-seat s row g seat owner .farmWithin
 
@@ -131,12 +132,12 @@ module _ (s : List ℕ) (g seat row : ℕ) (owner : ownerOf s row ≡ Seat (farm
   loss-cut (bytesFrom r input) n o e = go (ownerOf s r) e
     where
       go : (w : Owner) → ofOwner w (λ i. bytes i input) ≡ farms g o → isCut seat o ≡ false
-      go (Seat f i) q = let x : bytes i input ≡ o = cc in subst (λ (y : Own). isCut seat y ≡ false) x refl
-      go Nobody q = absurd (let z : _≡_ {A = ℕ} 0 1 = cc in omega arith)
+      go (Seat f i) z = let x : bytes i input ≡ o = cc in subst (λ (y : Own). isCut seat y ≡ false) x refl
+      go Nobody p = absurd (let z : _≡_ {A = ℕ} 0 1 = cc in omega arith)
   loss-cut (peerClosedOn r) n o e = go (ownerOf s r) refl e
     where
       go : (w : Owner) → ownerOf s r ≡ w → ofOwner w (λ i. peerClosed i) ≡ farms g o → isCut seat o ≡ false
-      go (Seat f i) p q =
+      go (Seat f i) p z =
           let x : peerClosed i ≡ o = cc in
           let k : f .0 ≡ g = cc in
           let p′ : ownerOf s r ≡ Seat (farmNo g) i = p ∙ ap (λ (y : ℕ). Seat (farmNo y) i) k in
@@ -146,7 +147,7 @@ module _ (s : List ℕ) (g seat row : ℕ) (owner : ownerOf s row ≡ Seat (farm
           (let a : firstRow s g + i ≡ r = owner-seat s r g i p′ .isRow in
           let b : firstRow s g + seat ≡ row = owner-seat s row g seat owner .isRow in
           omega arith)))
-      go Nobody p q = absurd (let z : _≡_ {A = ℕ} 0 1 = cc in omega arith)
+      go Nobody p z = absurd (let z : _≡_ {A = ℕ} 0 1 = cc in omega arith)
   loss-cut (linkLostOf f) n o e = absurd (eqb-false f g n (farm-of s f g linkLost o e .0))
   loss-cut tick n o e = absurd (let z : _≡_ {A = ℕ} 0 1 = cc in omega arith)
   loss-cut (datagramTo f input) n o e = subst (λ (x : Own). isCut seat x ≡ false) (farm-of s f g (datagram input) o e .1) refl
@@ -158,32 +159,32 @@ module _ (s : List ℕ) (g seat row : ℕ) (owner : ownerOf s row ≡ Seat (farm
   view t o = does (slot (tableOf t o) g .farm) (itemsOf o)
 
   abbrev pub Seen : ℕ → Table → Outcome → Type 0
-  Seen n t o = After (Due seat n) row (view t o)
+  Seen n t o = After (Due seat q n) row (q .address) (view t o)
 
   -- a call that is refused leaves it due as it was
-  refused-seen : (n : ℕ) (t : Table) (o : Outcome) → eqb (numberOf o) 0 ≡ false → Due seat n (slot t g .farm) → Seen n t o
+  refused-seen : (n : ℕ) (t : Table) (o : Outcome) → eqb (numberOf o) 0 ≡ false → Due seat q n (slot t g .farm) → Seen n t o
   refused-seen n t (refuses k) e d = waits d
   refused-seen n t (did x) e d = absurd (false≢true (sym e))
 
-  pub own-seen : (n : ℕ) (t : Table) (m : Move) → g < length t → Moved sheet seat n (slot t g) m → Seen n t (movedTo t g m)
+  pub own-seen : (n : ℕ) (t : Table) (m : Move) → g < length t → Moved sheet seat q n (slot t g) m → Seen n t (movedTo t g m)
   own-seen n t m h (gone a) =
-      gone (subst (λ (x : List Item). Answered row x) (sym (items-moved t g m)) (subst (λ (r : ℕ). Answered r (itemsBy m)) row-is a))
-  own-seen n t m h (waits d) = waits (subst (λ (x : Held). Due seat n (x .farm)) (sym (slot-own t g m h)) d)
+      gone (subst (λ (x : List Item). Answered row (q .address) x) (sym (items-moved t g m)) (subst (λ (r : ℕ). Answered r (q .address) (itemsBy m)) row-is a))
+  own-seen n t m h (waits d) = waits (subst (λ (x : Held). Due seat q n (x .farm)) (sym (slot-own t g m h)) d)
 
   called-seen : (n : ℕ) (t : Table) (w : Whose) → (w ≡ everyones → ⊥) → ((o : Own) → w ≡ farms g o → isCut seat o ≡ false)
-      → Due seat n (slot t g .farm) → Seen n t (called s t w)
+      → Due seat q n (slot t g .farm) → Seen n t (called s t w)
   called-seen n t (nobodys k) a c d = waits d
   called-seen n t (farms f o) a c d =
       split (eqb f g)
-      (λ e. let q : g ≡ f = sym (eqb-true f g e) in
-      subst (λ (x : ℕ). Seen n t (movedTo t x (move (slotSheet s x) (slot t x) o))) q
+      (λ e. let same : g ≡ f = sym (eqb-true f g e) in
+      subst (λ (x : ℕ). Seen n t (movedTo t x (move (slotSheet s x) (slot t x) o))) same
       (own-seen n t (move sheet (slot t g) o) (slot-in t g (d .near .at))
-      (own-moved sheet seat n (slot t g) d o (c o (ap (λ (x : ℕ). farms x o) (sym q))))))
-      (λ e. waits (subst (λ (x : Held). Due seat n (x .farm)) (sym (slot-other t f g (move (slotSheet s f) (slot t f) o) e)) d))
+      (own-moved sheet seat q n (slot t g) d o (c o (ap (λ (x : ℕ). farms x o) (sym same))))))
+      (λ e. waits (subst (λ (x : Held). Due seat q n (x .farm)) (sym (slot-other t f g (move (slotSheet s f) (slot t f) o) e)) d))
   called-seen n t everyones a c d = absurd (a refl)
 
-  tick-seen : (n : ℕ) (t : Table) → Due seat (suc n) (slot t g .farm) → Seen n t (called s t everyones)
-  tick-seen n t d = go (tick-moved sheet seat n (slot t g) d)
+  tick-seen : (n : ℕ) (t : Table) → Due seat q (suc n) (slot t g .farm) → Seen n t (called s t everyones)
+  tick-seen n t d = go (tick-moved sheet seat q n (slot t g) d)
     where
       has : g < length t
       has = slot-in t g (d .near .at)
@@ -194,17 +195,17 @@ module _ (s : List ℕ) (g seat row : ℕ) (owner : ownerOf s row ≡ Seat (farm
       held : slot (tickTable s 0 t) g ≡ heldBy (slot t g) (tickMove sheet (slot t g))
       held = slot-tick s 0 t g has ∙ ap (heldBy (slot t g)) ticks
 
-      go : Moved sheet seat n (slot t g) (tickMove sheet (slot t g)) → Seen n t (called s t everyones)
+      go : Moved sheet seat q n (slot t g) (tickMove sheet (slot t g)) → Seen n t (called s t everyones)
       go (gone a) =
           gone
-          (tick-entries row s 0 t g has
-          (subst (λ (m : Move). Answered row (itemsBy m)) (sym ticks) (subst (λ (r : ℕ). Answered r (itemsBy (tickMove sheet (slot t g)))) row-is a)))
-      go (waits e) = waits (subst (λ (x : Held). Due seat n (x .farm)) (sym held) e)
+          (tick-entries row (q .address) s 0 t g has
+          (subst (λ (m : Move). Answered row (q .address) (itemsBy m)) (sym ticks) (subst (λ (r : ℕ). Answered r (q .address) (itemsBy (tickMove sheet (slot t g)))) row-is a)))
+      go (waits e) = waits (subst (λ (x : Held). Due seat q n (x .farm)) (sym held) e)
 
   -- ---- the step law: a call ends the wait, or leaves it due in what remains
 
   pub data EndsBy (t : Table) (m : Made) : Type 0 where
-    answer : Answered row (itemsOf (stepOf s t m)) → EndsBy t m
+    answer : Answered row (q .address) (itemsOf (stepOf s t m)) → EndsBy t m
     cut : cuts row g s t m ≡ true → EndsBy t m
 
   abbrev pub next : Table → Made → Table
@@ -214,13 +215,13 @@ module _ (s : List ℕ) (g seat row : ℕ) (owner : ownerOf s row ≡ Seat (farm
   tickOf t m = one (acceptedTick s t m)
 
   abbrev pub DueIn : Table → ℕ → Type 0
-  DueIn t n = Due seat n (slot t g .farm)
+  DueIn t n = Due seat q n (slot t g .farm)
 
   -- the same of an outcome, so that the refusals can be taken one by one
   data KeptBy (t : Table) (c : Call) (n : ℕ) (o : Outcome) : Type 0 where
-    answered : Answered row (itemsOf o) → KeptBy t c n o
+    answered : Answered row (q .address) (itemsOf o) → KeptBy t c n o
     lost : both (isLoss row g c) (eqb (numberOf o) 0) ≡ true → KeptBy t c n o
-    due : (k : ℕ) → k + one (both (isTick c) (eqb (numberOf o) 0)) ≤ n → Due seat k (slot (tableOf t o) g .farm) → KeptBy t c n o
+    due : (k : ℕ) → k + one (both (isTick c) (eqb (numberOf o) 0)) ≤ n → Due seat q k (slot (tableOf t o) g .farm) → KeptBy t c n o
 
   kept : (t : Table) (m : Made) (n : ℕ) → KeptBy t (m .call) n (stepOf s t m) → Kept next tickOf EndsBy DueIn t m n
   kept t m n (answered a) = stops (answer a)

@@ -36,7 +36,7 @@ use Rattle.model.specs.Rule.{times, HeadKeeps, Good}
 use Rattle.model.specs.Words.{Stands, first, behind, Answered, answers}
 use Rattle.model.proofs.Cases.{pick-case, unless-case, split}
 use Rattle.model.proofs.Rows.{row-set, row-same, row-other, open-in, count-same}
-use Rattle.model.proofs.Due.{After, gone, waits, then-after, Near, Due, Anew, advanced-anew, advanced-near, settle-due}
+use Rattle.model.proofs.Due.{After, gone, waits, then-after, Asks, Near, Due, Ends, Anew, advanced-anew, advanced-near, settle-due}
 
 -- ---- a row that is not active, before and after a store: no rule on the line sees the difference
 
@@ -135,12 +135,9 @@ Opens =
 
 -- ---- the call by which a fresh row gives the last byte of a request that must wait
 
-module _ (own : FarmSheet) (f : Farm) (seat : ℕ) (t : Taken) (size : ℕ) (check : Check) (age : Clock)
+module _ (own : FarmSheet) (f : Farm) (seat : ℕ) (t : Taken) (size : ℕ) (request : Request) (check : Check) (age : Clock)
     (fresh : rowAt (f .rows) seat .state ≡ Fresh age) (whole : t .event ≡ finished 0x0005 size)
-    (ask : decide own (f .rows) seat (requestIn (take size (t .stream .room))) ≡ Ask check) where
-  abbrev request : Request
-  request = requestIn (take size (t .stream .room))
-
+    (says : requestIn (take size (t .stream .room)) ≡ request) (ask : decide own (f .rows) seat request ≡ Ask check) where
   abbrev after : Row
   after = heardRow (t .count) (t .stream) (rowAt (f .rows) seat)
 
@@ -168,21 +165,30 @@ module _ (own : FarmSheet) (f : Farm) (seat : ℕ) (t : Taken) (size : ℕ) (che
   -- so the row joins
   event-joins : eventDone own seat (t .event) (t .stream .room) (heard seat t f) ≡ joined own seat request (heard seat t f)
   unfolding eventDone requested heard
-  event-joins = rw (whole, still-asks) refl
+  event-joins = rw (whole, says, still-asks) refl
 
   abbrev at-end : Farm
   at-end = withRow (heard seat t f) seat (waitingRow request)
+
+  -- with its request
+  is-there : rowAt (at-end .rows) seat ≡ waitingRow request
+  unfolding heard
+  is-there =
+      row-same (set (f .rows) seat after) seat (waitingRow request) (open-in (set (f .rows) seat after) seat (ap isOpenState fresh-still))
+
+  waits-there : rowAt (at-end .rows) seat .state ≡ Waiting request
+  waits-there = ap (λ (r : Row). r .state) is-there
 
   abbrev joins : Done
   joins = joined own seat request (heard seat t f)
 
   -- at the end of the line, it is due
-  joined-due : (n : ℕ) → f .clock .ticks < checkLimit → checkLimit * suc (length (f .line)) ≤ n → Due seat n (joins .farm)
+  joined-due : (n : ℕ) → f .clock .ticks < checkLimit → checkLimit * suc (length (f .line)) ≤ n → Due seat request n (joins .farm)
   unfolding joined heard advanced
   joined-due n r w =
-      pick-case (λ (d : Done). Due seat n (d .farm)) (isEmpty (f .line)) _ _
+      pick-case (λ (d : Done). Due seat request n (d .farm)) (isEmpty (f .line)) _ _
       (λ e. record {
-        near = advanced-near own seat n (f .line ++ seat ∷ []) at-end (length (f .line)) (stands-end seat (f .line)) w;
+        near = advanced-near own seat request n (f .line ++ seat ∷ []) at-end (length (f .line)) (stands-end seat (f .line)) w waits-there;
         running = omega (arith, advanced-anew own (f .line ++ seat ∷ []) at-end .clock);
       })
       (λ e. record {
@@ -192,6 +198,7 @@ module _ (own : FarmSheet) (f : Farm) (seat : ℕ) (t : Taken) (size : ℕ) (che
             at = stands-end seat (f .line);
             runs = omega arith;
             within = omega (arith, mul-suc checkLimit (length (f .line)));
+            asks = waits-there;
           };
         running = r;
       })
@@ -204,10 +211,10 @@ module _ (own : FarmSheet) (f : Farm) (seat : ℕ) (t : Taken) (size : ℕ) (che
 
   -- after the whole call it is answered or due
   pub join-due : (n : ℕ) → f .clock .ticks < checkLimit → checkLimit * suc (length (f .line)) ≤ n
-      → After (Due seat n) (own .first + seat) (bytesDone own seat t f)
+      → Ends own seat request n (bytesDone own seat t f)
   unfolding bytesDone
   join-due n r w =
-      rw event-joins (then-after {P = Near seat n} joins (settle own) (waits (joined-due n r w .near)) (settle-due own seat n))
+      rw event-joins (then-after {P = Near seat request n} joins (settle own) (waits (joined-due n r w .near)) (settle-due own seat request n))
 
   -- ---- from a farm that keeps the rules, it is not answered by that call: it stands at the end of the line as it was
 
@@ -232,7 +239,7 @@ module _ (own : FarmSheet) (f : Farm) (seat : ℕ) (t : Taken) (size : ℕ) (che
     need : socketRules own (at-end .rows) (wanted (rowAt (at-end .rows) seat)) ≡ Ask check
     unfolding heard
     need =
-        rw (row-same (set (f .rows) seat after) seat (waitingRow request) (open-in (set (f .rows) seat after) seat (ap isOpenState fresh-still)))
+        rw is-there
         (same-rules (request .address) ∙ decide-ask own (f .rows) seat request check ask .1)
 
     many : length (at-end .rows) ≡ seatCount
@@ -290,5 +297,5 @@ module _ (own : FarmSheet) (f : Farm) (seat : ℕ) (t : Taken) (size : ℕ) (che
     pub joins-last : bytesDone own seat t f .farm .line ≡ f .line ++ seat ∷ []
     joins-last = rw call-joins joined-line
 
-    pub joins-due : (n : ℕ) → checkLimit * suc (length (f .line)) ≤ n → Due seat n (bytesDone own seat t f .farm)
+    pub joins-due : (n : ℕ) → checkLimit * suc (length (f .line)) ≤ n → Due seat request n (bytesDone own seat t f .farm)
     joins-due n w = rw call-joins (joined-due n (good .checkRuns) w)

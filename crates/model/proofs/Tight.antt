@@ -13,6 +13,7 @@ use Rattle.octets.specs.Parts.{parts}
 use Rattle.kinds.specs.declared.Item.{Item}
 use Rattle.kinds.specs.declared.Reply.{Reply}
 use Rattle.kinds.specs.declared.Reply.the-variants.{Nack, Identity, Activation, AliveCheck, Status, PowerMode, Message, Ack, DiagnosticNack, Close, HandOn}
+use Rattle.kinds.specs.declared.Request.{Request}
 use Rattle.kinds.specs.declared.Check.the-variants.{One}
 use Rattle.wire.specs.Types.{types, knownOn, lengthFits}
 use Rattle.wire.specs.Header.{verdictOf, ourVersion}
@@ -41,6 +42,9 @@ made c = record { lent = record { output = 4096; assembling = 32768 }; call = c 
 -- 0005, 0E00, type 00
 ask : List ℕ
 ask = 3 ∷ 252 ∷ 0 ∷ 5 ∷ 0 ∷ 0 ∷ 0 ∷ 7 ∷ 14 ∷ 0 ∷ 0 ∷ 0 ∷ 0 ∷ 0 ∷ 0 ∷ []
+
+request : Request
+request = record { address = 0x0E00; kind = 0 }
 
 rooms : List (List (List ℕ))
 rooms = (replicate 7 0 ∷ replicate 7 0 ∷ replicate 7 0 ∷ []) ∷ []
@@ -88,17 +92,17 @@ granted row = entry row (Activation 0x0E00 0x1000 0x10)
 
 -- all that the day is computed with
 computed : ℕ
-unfolding rig made ask rooms past atB atC waiting silence isAnswer answersOf entry granted upTo firstAt countIf all some sameList parts types knownOn lengthFits verdictOf lookup ownerFrom goodSheet everyBelow farmSheet noFarm slotSheet initialLimit checkLimit generalLimit mostTicks stepped noHead feed takes seatCount newFarm andThen eachSeat closed closedIf accepted socketRules decide allAnswered askedIf started advanced answered headVerdict settleLine joined left isAsked marked requested diagnosed eventDone heard bytesDone noRow connects peerGone linkGone ticked move tickMove everySeat goodFarm goodTable leastOutput assemblingSize whose step run ticksIn cutIn entriesIn
+unfolding rig made ask request rooms past atB atC waiting silence isAnswer answersOf entry granted upTo firstAt countIf all some sameList parts types knownOn lengthFits verdictOf lookup ownerFrom goodSheet everyBelow farmSheet noFarm slotSheet initialLimit checkLimit generalLimit mostTicks stepped noHead feed takes seatCount newFarm andThen eachSeat closed closedIf accepted socketRules decide allAnswered askedIf started advanced answered headVerdict settleLine joined left isAsked marked requested diagnosed eventDone heard bytesDone noRow connects peerGone linkGone ticked move tickMove everySeat goodFarm goodTable leastOutput assemblingSize whose step run ticksIn cutIn entriesIn
 computed = 0
 
 -- B joins at place 1, C at place 2
-b-waits : MustWait rig atB (made (bytesFrom 1 ask)) 1 0 1
+b-waits : MustWait rig atB (made (bytesFrom 1 ask)) 1 0 1 request
 unfolding computed
-b-waits = record { input = ask; size = 7; check = One 0; bytesOf = refl; done = refl; owner = refl; whole = refl; waits = refl }
+b-waits = record { input = ask; size = 7; check = One 0; bytesOf = refl; done = refl; owner = refl; whole = refl; says = refl; waits = refl }
 
-c-waits : MustWait rig atC (made (bytesFrom 2 ask)) 2 0 2
+c-waits : MustWait rig atC (made (bytesFrom 2 ask)) 2 0 2 request
 unfolding computed
-c-waits = record { input = ask; size = 7; check = One 0; bytesOf = refl; done = refl; owner = refl; whole = refl; waits = refl }
+c-waits = record { input = ask; size = 7; check = One 0; bytesOf = refl; done = refl; owner = refl; whole = refl; says = refl; waits = refl }
 
 line : slot waiting 0 .farm .line ≡ 1 ∷ 2 ∷ []
 unfolding computed

@@ -9,6 +9,7 @@ use lib.ListN.{getD, take}
 use Rattle.octets.specs.Choice.{both, either, one}
 use Rattle.kinds.specs.declared.Item.{Item}
 use Rattle.kinds.specs.declared.Reply.the-variants.{Activation}
+use Rattle.kinds.specs.declared.Request.{Request}
 use Rattle.kinds.specs.declared.Check.{Check}
 use Rattle.kinds.specs.declared.Decision.the-variants.{Now, Ask}
 use Rattle.kinds.specs.declared.HeadVerdict.the-variants.{Pending}
@@ -32,10 +33,11 @@ pub data Stands (seat : ℕ) : List ℕ → ℕ → Type 0 where
   first : {x : ℕ} {l : List ℕ} → seat ≡ x → Stands seat (x ∷ l) zero
   behind : {x : ℕ} {l : List ℕ} {k : ℕ} → Stands seat l k → Stands seat (x ∷ l) (suc k)
 
--- a response 0006 to this row is among the entries
-pub data Answered (row : ℕ) (items : List Item) : Type 0 where
-  answers : (address entity code : ℕ)
-      → List·Memᴰ (record { row = record { 0 = row }; version = ourVersion; reply = Activation address entity code }) items → Answered row items
+-- a response 0006 to this row, for this address, is among the entries
+pub data Answered (row address : ℕ) (items : List Item) : Type 0 where
+  answers : (entity code : ℕ)
+      → List·Memᴰ (record { row = record { 0 = row }; version = ourVersion; reply = Activation address entity code }) items
+      → Answered row address items
 
 -- the call was done, not refused
 abbrev pub isDone : List ℕ → Table → Made → Bool
@@ -46,9 +48,9 @@ isDone s t m = eqb (numberOf (stepOf s t m)) 0
 abbrev pub takenOf : Held → ℕ → List ℕ → Taken
 takenOf h seat input = takenBy seat (getD (h .rooms) seat []) input (h .farm)
 
--- with this call, which is done, the row gives the last byte of a whole 0005, and the rules, looking at its farm as it is then, say that
--- a check comes first
-pub record MustWait (s : List ℕ) (t : Table) (m : Made) (row farm seat : ℕ) : Type 0 where
+-- with this call, which is done, the row gives the last byte of a whole 0005 with this request, and the rules, looking at its farm as it is
+-- then, say that a check comes first
+pub record MustWait (s : List ℕ) (t : Table) (m : Made) (row farm seat : ℕ) (q : Request) : Type 0 where
   pub input : List ℕ
   pub size : ℕ
   pub check : Check
@@ -56,7 +58,8 @@ pub record MustWait (s : List ℕ) (t : Table) (m : Made) (row farm seat : ℕ) 
   pub done : isDone s t m ≡ true
   pub owner : ownerOf s row ≡ Seat (farmNo farm) seat
   pub whole : takenOf (slot t farm) seat input .event ≡ finished 0x0005 size
-  pub waits : decide (slotSheet s farm) (slot t farm .farm .rows) seat (requestIn (take size (takenOf (slot t farm) seat input .stream .room))) ≡ Ask check
+  pub says : requestIn (take size (takenOf (slot t farm) seat input .stream .room)) ≡ q
+  pub waits : decide (slotSheet s farm) (slot t farm .farm .rows) seat q ≡ Ask check
 
 -- ---- along a history, from a table on
 
