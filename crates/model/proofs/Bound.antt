@@ -177,7 +177,7 @@ module _ (s : List ℕ) (t : Table) (m : Made) (row g seat : ℕ) (q : Request) 
   seen n h =
       subst (λ (o : Outcome). Seen s g seat row q (w .owner) n t o) (sym is-taken)
       (own-seen s g seat row q (w .owner) n t (tookBytes own held seat took) has-slot
-      (join-due own (held .farm) seat took (w .size) q (w .check) (fresh-row .0) (fresh-row .1) (w .whole) (w .says) (w .waits) n
+      (join-due own (held .farm) seat took (w .size) q (w .check) (fresh-row .0) (fresh-row .1) (w .whole) (w .reads) (w .waits) n
       (good-runs own (held .farm) (good-slot s t g has-slot (ok .goodTableIs))) h))
 
   -- ---- from a table that keeps the rules it is not answered by that very call
@@ -195,13 +195,13 @@ module _ (s : List ℕ) (t : Table) (m : Made) (row g seat : ℕ) (q : Request) 
     line-after =
         ap (λ (o : Outcome). slot (tableOf t o) g .farm .line) is-taken
         ∙ ap (λ (h : Held). h .farm .line) (slot-own t g (tookBytes own held seat took) has-slot)
-        ∙ joins-last own (held .farm) seat took (w .size) q (w .check) (fresh-row .0) (fresh-row .1) (w .whole) (w .says) (w .waits) quota-some good-farm opens
+        ∙ joins-last own (held .farm) seat took (w .size) q (w .check) (fresh-row .0) (fresh-row .1) (w .whole) (w .reads) (w .waits) quota-some good-farm opens
 
     due-after : (n : ℕ) → checkLimit * suc (length (held .farm .line)) ≤ n → Due seat q n (slot (tableOf t (stepOf s t m)) g .farm)
     due-after n h =
         subst (λ (x : Held). Due seat q n (x .farm))
         (sym (ap (λ (o : Outcome). slot (tableOf t o) g) is-taken ∙ slot-own t g (tookBytes own held seat took) has-slot))
-        (joins-due own (held .farm) seat took (w .size) q (w .check) (fresh-row .0) (fresh-row .1) (w .whole) (w .says) (w .waits) quota-some good-farm opens n h)
+        (joins-due own (held .farm) seat took (w .size) q (w .check) (fresh-row .0) (fresh-row .1) (w .whole) (w .reads) (w .waits) quota-some good-farm opens n h)
 
 -- ---- THE THEOREMS
 

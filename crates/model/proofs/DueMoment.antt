@@ -21,7 +21,7 @@ use Rattle.model.specs.FarmSheet.{FarmSheet}
 use Rattle.model.specs.Row.{rowAt, wanted}
 use Rattle.model.specs.Farm.{Farm, Done, does, quietly, andThen, eachSeat, seatCount, withLine, says, closed, closedIf, closedWhere}
 use Rattle.model.specs.Line.{accepted, socketRules, asks, isSilent, askedIf, asking, cleared, startedBy, started, advanced, answered, headVerdict, serve, settleLine}
-use Rattle.model.specs.Words.{Because, Moment, thisHead, nextHead}
+use Rattle.model.specs.Words.{Because, Moment, thisHead, nextHead, AnswerAt}
 use Rattle.model.proofs.Cases.{pick-case}
 use Rattle.model.proofs.Seats.{seatsTo, seats-suc, seats-all, seats-zero}
 use Rattle.model.proofs.DueAnswer.{Reason, verdict-because}
@@ -31,20 +31,20 @@ use Rattle.model.proofs.DueAnswer.{Reason, verdict-because}
 abbrev pub Each : (Item → Type 0) → List Item → Type 0
 Each Q items = (it : Item) → List·Memᴰ it items → Q it
 
-none-each : (Q : Item → Type 0) → Each Q []
+pub none-each : (Q : Item → Type 0) → Each Q []
 none-each Q it m = absurd (List·Memᴰ·not-nil m)
 
-one-each : (Q : Item → Type 0) (x : Item) → Q x → Each Q (x ∷ [])
+pub one-each : (Q : Item → Type 0) (x : Item) → Q x → Each Q (x ∷ [])
 one-each Q x q it m = subst Q (sym (List·Memᴰ·eq-of-singleton m)) q
 
-append-each : (Q : Item → Type 0) (l k : List Item) → Each Q l → Each Q k → Each Q (l ++ k)
+pub append-each : (Q : Item → Type 0) (l k : List Item) → Each Q l → Each Q k → Each Q (l ++ k)
 append-each Q l k a b it m = ⊎-elim (a it) (b it) (List·Memᴰ·append-cases l m)
 
-then-each : (Q : Item → Type 0) (d : Done) (g : Farm → Done) → Each Q (d .items) → Each Q (g (d .farm) .items) → Each Q (andThen d g .items)
+pub then-each : (Q : Item → Type 0) (d : Done) (g : Farm → Done) → Each Q (d .items) → Each Q (g (d .farm) .items) → Each Q (andThen d g .items)
 unfolding andThen
 then-each Q d g a b = append-each Q (d .items) (g (d .farm) .items) a b
 
-each-seat : (Q : Item → Type 0) (g : ℕ → Farm → Done) (f : Farm) → ((i : ℕ) (x : Farm) → Each Q (g i x .items)) → Each Q (eachSeat g f .items)
+pub each-seat : (Q : Item → Type 0) (g : ℕ → Farm → Done) (f : Farm) → ((i : ℕ) (x : Farm) → Each Q (g i x .items)) → Each Q (eachSeat g f .items)
 each-seat Q g f k = rw (seats-all g f) (to seatCount)
   where
     to : (n : ℕ) → Each Q (seatsTo g f n .items)
@@ -62,7 +62,7 @@ close-plain own i a e c p = let z : _≡_ {A = ℕ} 0 1 = cc in omega arith
 check-plain : (own : FarmSheet) (i : ℕ) → Plain (says own i AliveCheck)
 check-plain own i a e c p = let z : _≡_ {A = ℕ} 0 1 = cc in omega arith
 
-closed-plain : (own : FarmSheet) (i : ℕ) (f : Farm) → Each Plain (closed own i f .items)
+pub closed-plain : (own : FarmSheet) (i : ℕ) (f : Farm) → Each Plain (closed own i f .items)
 unfolding closed
 closed-plain own i f = one-each Plain (says own i Close) (close-plain own i)
 
@@ -89,26 +89,17 @@ started-plain own f = by (f .line)
     by [] = none-each Plain
     by (head ∷ rest) = asking-plain own (socketRules own (f .rows) (wanted (rowAt (f .rows) head))) (cleared f)
 
-advanced-plain : (own : FarmSheet) (rest : List ℕ) (f : Farm) → Each Plain (advanced own rest f .items)
+pub advanced-plain : (own : FarmSheet) (rest : List ℕ) (f : Farm) → Each Plain (advanced own rest f .items)
 unfolding advanced
 advanced-plain own rest f = started-plain own (withLine f rest)
 
 -- ---- the answers of a settling
 
--- the entry is the answer to a head, at a moment of the settling of this line, for the reason that the rules then give
-pub record AnswerAt (own : FarmSheet) (line : List ℕ) (f : Farm) (it : Item) : Type 0 where
-  pub head : ℕ
-  pub moment : Farm
-  pub reached : Moment own line f head moment
-  pub code : ℕ
-  pub because : Because own moment head code
-  pub isEntry : it ≡ says own head (Activation (wanted (rowAt (moment .rows) head)) (own .entity) code)
-
 -- an entry that is a response 0006 is such an answer
 abbrev pub Told : FarmSheet → List ℕ → Farm → Item → Type 0
 Told own line f it = (a e c : ℕ) → it .reply ≡ Activation a e c → AnswerAt own line f it
 
-plain-told : {own : FarmSheet} {line : List ℕ} {f : Farm} (items : List Item) → Each Plain items → Each (Told own line f) items
+pub plain-told : {own : FarmSheet} {line : List ℕ} {f : Farm} (items : List Item) → Each Plain items → Each (Told own line f) items
 plain-told items k it m a e c p = absurd (k it m a e c p)
 
 module _ (own : FarmSheet) (head : ℕ) (rest : List ℕ) (f : Farm) where

@@ -10,5 +10,6 @@ pub mod Join
 pub mod Bound
 pub mod DueAnswer
 pub mod DueMoment
+pub mod DueTold
 pub mod Tight
 pub mod Try

@@ -98,11 +98,11 @@ computed = 0
 -- B joins at place 1, C at place 2
 b-waits : MustWait rig atB (made (bytesFrom 1 ask)) 1 0 1 request
 unfolding computed
-b-waits = record { input = ask; size = 7; check = One 0; bytesOf = refl; done = refl; owner = refl; whole = refl; says = refl; waits = refl }
+b-waits = record { input = ask; size = 7; check = One 0; bytesOf = refl; done = refl; owner = refl; whole = refl; reads = refl; waits = refl }
 
 c-waits : MustWait rig atC (made (bytesFrom 2 ask)) 2 0 2 request
 unfolding computed
-c-waits = record { input = ask; size = 7; check = One 0; bytesOf = refl; done = refl; owner = refl; whole = refl; says = refl; waits = refl }
+c-waits = record { input = ask; size = 7; check = One 0; bytesOf = refl; done = refl; owner = refl; whole = refl; reads = refl; waits = refl }
 
 line : slot waiting 0 .farm .line ≡ 1 ∷ 2 ∷ []
 unfolding computed

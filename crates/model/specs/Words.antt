@@ -21,10 +21,10 @@ use Rattle.sheet.specs.Rows.{ownerOf}
 use Rattle.model.specs.FarmSheet.{FarmSheet, slotSheet}
 use Rattle.model.specs.Row.{checkLimit, rowAt, wanted}
 use Rattle.model.specs.Stream.{finished, Taken}
-use Rattle.model.specs.Farm.{Farm, quietly}
-use Rattle.model.specs.Line.{accepted, socketRules, decide, allAnswered, refusalOf, headVerdict, serve}
-use Rattle.model.specs.Bytes.{takenBy}
-use Rattle.model.specs.Move.{Held}
+use Rattle.model.specs.Farm.{Farm, quietly, andThen, says, closed}
+use Rattle.model.specs.Line.{accepted, socketRules, decide, allAnswered, refusalOf, headVerdict, serve, left}
+use Rattle.model.specs.Bytes.{takenBy, eventDone, heard}
+use Rattle.model.specs.Move.{Own, bytes, peerClosed, Held}
 use Rattle.model.specs.Table.{Table, slot, Call, connectTo, bytesFrom, peerClosedOn, linkLostOf, tick, datagramTo, messageFrom, numberOf, itemsOf, tableOf}
 use Rattle.model.specs.History.{Made, stepOf}
 
@@ -58,7 +58,7 @@ pub record MustWait (s : List ℕ) (t : Table) (m : Made) (row farm seat : ℕ) 
   pub done : isDone s t m ≡ true
   pub owner : ownerOf s row ≡ Seat (farmNo farm) seat
   pub whole : takenOf (slot t farm) seat input .event ≡ finished 0x0005 size
-  pub says : requestIn (take size (takenOf (slot t farm) seat input .stream .room)) ≡ q
+  pub reads : requestIn (take size (takenOf (slot t farm) seat input .stream .room)) ≡ q
   pub waits : decide (slotSheet s farm) (slot t farm .farm .rows) seat q ≡ Ask check
 
 -- ---- along a history, from a table on
@@ -123,3 +123,29 @@ pub data Moment (own : FarmSheet) : List ℕ → Farm → ℕ → Farm → Type 
   thisHead : {head : ℕ} {rest : List ℕ} {f : Farm} → Moment own (head ∷ rest) f head f
   nextHead : {head : ℕ} {rest : List ℕ} {f : Farm} {other : ℕ} {g : Farm} → (headVerdict own f head ≡ Pending → ⊥)
       → Moment own rest (serve own head rest f (headVerdict own f head) quietly .farm) other g → Moment own (head ∷ rest) f other g
+
+-- the entry is the answer to a head, at a moment of the settling of this line, for the reason that the rules then give
+pub record AnswerAt (own : FarmSheet) (line : List ℕ) (f : Farm) (it : Item) : Type 0 where
+  pub head : ℕ
+  pub moment : Farm
+  pub reached : Moment own line f head moment
+  pub code : ℕ
+  pub because : Because own moment head code
+  pub isEntry : it ≡ says own head (Activation (wanted (rowAt (moment .rows) head)) (own .entity) code)
+
+-- the farm that a call hands to settling
+pub data Handed (own : FarmSheet) (h : Held) : Own → Farm → Type 0 where
+  afterBytes : (seat : ℕ) (input : List ℕ)
+      → Handed own h (bytes seat input)
+      (eventDone own seat (takenOf h seat input .event) (takenOf h seat input .stream .room) (heard seat (takenOf h seat input) (h .farm)) .farm)
+  afterClose : (seat : ℕ) → Handed own h (peerClosed seat) (andThen (closed own seat (h .farm)) (left own seat) .farm)
+
+-- why a call of the farm sends a response 0006
+pub data Why (own : FarmSheet) (h : Held) (c : Own) (it : Item) : Type 0 where
+  -- the request that the call finished has its answer at once: the rules need no check
+  atOnce : (seat : ℕ) (input : List ℕ) (size code : ℕ) (q : Request) → c ≡ bytes seat input → takenOf h seat input .event ≡ finished 0x0005 size
+      → requestIn (take size (takenOf h seat input .stream .room)) ≡ q
+      → decide own (heard seat (takenOf h seat input) (h .farm) .rows) seat q ≡ Now code
+      → it ≡ says own seat (Activation (q .address) (own .entity) code) → Why own h c it
+  -- the head of the line has its answer
+  inLine : (g : Farm) → Handed own h c g → AnswerAt own (g .line) g it → Why own h c it
