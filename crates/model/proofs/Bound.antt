@@ -2,13 +2,13 @@
 -- Assumes nothing.
 use Prim.Native.Nat.{ℕ, zero, suc, _+_, _*_, _≤_, _<_}
 use mathlib.Core.Path.{_≡_, refl, sym, ap, subst, _∙_}
-use mathlib.Core.Bool.{Bool, true, false, false≢true, true≢false}
+use mathlib.Core.Bool.{Bool, true, false, false≢true}
 use mathlib.Core.List.{List, [], _∷_, _++_}
 use native.Mathlib.Nat.{not-suc-le-zero, le-of-suc-le-suc, add-zero, zero-add, mul-suc}
 use native.Mathlib.Numerals.{add-one}
 use native.Mathlib.Omega.{arith}
 use lib.Dec.{eqb, leb, ltb}
-use lib.ListN.{getD, length, replicate, take}
+use lib.ListN.{length, replicate}
 use borrow.Author.Tests.{eqb-true, ltb-true, lt-ltb}
 use Rattle.octets.specs.Choice.{both, either, one}
 use Rattle.octets.specs.Search.{countIf, all}
@@ -17,27 +17,24 @@ use Rattle.kinds.specs.declared.Clock.{Clock}
 use Rattle.kinds.specs.declared.Request.{Request}
 use Rattle.kinds.specs.declared.RowState.{RowState}
 use Rattle.kinds.specs.declared.RowState.the-variants.{Free, Fresh, Waiting, Active}
-use Rattle.kinds.specs.declared.Check.{Check}
-use Rattle.sheet.specs.declared.rows.Owner.the-variants.{Seat, Nobody}
+use Rattle.sheet.specs.declared.rows.Owner.the-variants.{Seat}
 use Rattle.sheet.specs.Sheet.{farmCount, farmNo, quotaOf}
 use Rattle.sheet.specs.Rows.{ownerOf}
 use Rattle.sheet.specs.Test.{goodSheet}
 use Rattle.model.specs.FarmSheet.{FarmSheet, farmSheet, slotSheet}
 use Rattle.model.specs.Row.{checkLimit, freeRow, rowAt, isOpenState, isActiveState, isOpen, isActive}
 use Rattle.model.specs.Stream.{Taken}
-use Rattle.model.specs.Farm.{Farm, newFarm, seatCount, Done}
-use Rattle.model.specs.Bytes.{takenBy, bytesDone}
-use Rattle.model.specs.Move.{Own, bytes, Held, Move, bytesBy, tookBytes, move}
+use Rattle.model.specs.Farm.{Farm, newFarm, seatCount}
+use Rattle.model.specs.Move.{bytes, Held, bytesBy, tookBytes, move}
 use Rattle.model.specs.Rule.{Good}
 use Rattle.model.specs.RuleTest.{goodFarm, everySeat, seatKeeps, headKeeps}
-use Rattle.model.specs.Table.{Table, slot, goodFrom, goodTable, Call, bytesFrom, farms, whose, Outcome, refuses, did, movedTo, called, numberOf, itemsOf, tableOf}
+use Rattle.model.specs.Table.{Table, slot, goodFrom, goodTable, Call, whose, Outcome, movedTo, called, numberOf, itemsOf, tableOf}
 use Rattle.model.specs.History.{Made, fresh, stepOf, run}
 use Rattle.model.specs.Words.{Stands, Answered, isDone, takenOf, MustWait, acceptedTick, ticksIn, cuts, cutIn, entriesIn}
-use Rattle.model.proofs.Cases.{split}
-use Rattle.model.proofs.Rank.{Within, now, later, Kept, stops, goesOn, bound, count}
-use Rattle.model.proofs.Due.{After, gone, waits, more-left, more-right, Near, Due}
+use Rattle.model.proofs.Rank.{Within, now, later, bound, count}
+use Rattle.model.proofs.Due.{gone, waits, more-left, more-right, Due}
 use Rattle.model.proofs.DueCalls.{never-now}
-use Rattle.model.proofs.DueTable.{step-case, slot-in, slot-own, inside, sheet, view, Seen, own-seen, EndsBy, answer, cut, next, tickOf, DueIn, step-law}
+use Rattle.model.proofs.DueTable.{step-case, slot-in, slot-own, inside, Seen, own-seen, EndsBy, answer, cut, next, tickOf, DueIn, step-law}
 use Rattle.model.proofs.Join.{Opens, decide-ask, join-due, joins-last, joins-due}
 
 -- ---- whoever is due in n ticks is answered in every history with n accepted ticks and no cut

@@ -4,22 +4,20 @@
 use Prim.Native.Nat.{ℕ, zero, suc, _+_, _*_, _≤_, _<_}
 use mathlib.Core.Path.{_≡_, refl, sym, ap, subst, _∙_}
 use mathlib.Core.Bool.{Bool, true, false, false≢true}
-use mathlib.Core.List.{List, [], _∷_, _++_, List·Memᴰ, List·Memᴰ·head, Memᴰ·append-left, Memᴰ·append-right}
+use mathlib.Core.List.{List, [], _∷_, _++_, List·Memᴰ·head, Memᴰ·append-left, Memᴰ·append-right}
 use native.Mathlib.Nat.{mul-suc}
 use native.Mathlib.Omega.{arith}
 use lib.Dec.{eqb, leb}
-use lib.ListN.{getD, set, length}
+use lib.ListN.{getD, length}
 use borrow.Author.Tests.{leb-false, eqb-true, eqb-false, ne-eqb}
 use Rattle.octets.specs.declared.Found.{Found}
 use Rattle.octets.specs.declared.Found.the-variants.{At, Nothing}
-use Rattle.octets.specs.Choice.{pick}
 use Rattle.octets.specs.Search.{firstAt, countIf}
 use Rattle.kinds.specs.declared.Clock.{Clock}
 use Rattle.kinds.specs.declared.Item.{Item}
-use Rattle.kinds.specs.declared.Reply.the-variants.{Activation, AliveCheck}
+use Rattle.kinds.specs.declared.Reply.the-variants.{AliveCheck}
 use Rattle.kinds.specs.declared.Request.{Request}
 use Rattle.kinds.specs.declared.Row.{Row}
-use Rattle.kinds.specs.declared.RowState.{RowState}
 use Rattle.kinds.specs.declared.RowState.the-variants.{Waiting}
 use Rattle.kinds.specs.declared.Check.{Check}
 use Rattle.kinds.specs.declared.Check.the-variants.{One, All}
@@ -28,8 +26,8 @@ use Rattle.kinds.specs.declared.Decision.the-variants.{Now, Ask}
 use Rattle.kinds.specs.declared.HeadVerdict.{HeadVerdict}
 use Rattle.kinds.specs.declared.HeadVerdict.the-variants.{Pending, Answer, RunOut}
 use Rattle.model.specs.FarmSheet.{FarmSheet}
-use Rattle.model.specs.Row.{clockOf, checkLimit, freeRow, rowAt, wantedBy, isActiveState, activeAsState, isActive, activeAs, wanted, activeRow}
-use Rattle.model.specs.Farm.{Farm, Done, does, quietly, andThen, eachSeat, withRow, withLine, says, closed, closedWhere}
+use Rattle.model.specs.Row.{checkLimit, freeRow, rowAt, wantedBy, isActiveState, activeAsState, isActive, activeAs, wanted, activeRow}
+use Rattle.model.specs.Farm.{Farm, Done, does, quietly, andThen, withLine, says, closedWhere}
 use Rattle.model.specs.Line.{accepted, byHolder, socketRules, asks as asksIt, isSilent, allAnswered, refusalOf, askedIf, asking, cleared, started, advanced, answered, verdictBy, headVerdict, serve, settleLine, settle}
 use Rattle.model.specs.Words.{Stands, first, behind, Answered, answers}
 use Rattle.model.proofs.Cases.{pick-case, split}

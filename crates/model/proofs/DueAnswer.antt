@@ -1,23 +1,19 @@
 -- "The answer is the one the rules give at the moment of deciding."
 -- Assumes nothing.
-use Prim.Native.Nat.{ℕ, zero, suc, _+_, _≤_, _<_}
-use mathlib.Core.Path.{_≡_, refl, sym, ap, subst, _∙_}
-use mathlib.Core.Bool.{Bool, true, false}
+use Prim.Native.Nat.{ℕ}
+use mathlib.Core.Path.{_≡_, refl, ap, _∙_}
 use mathlib.Core.List.{List, [], _∷_, _++_, append-assoc}
-use native.Mathlib.Omega.{arith}
 use lib.Dec.{eqb, leb}
 use borrow.Author.Tests.{leb-true}
-use Rattle.octets.specs.Choice.{pick}
 use Rattle.kinds.specs.declared.Item.{Item}
-use Rattle.kinds.specs.declared.Reply.the-variants.{Activation, Close}
-use Rattle.kinds.specs.declared.Check.{Check}
+use Rattle.kinds.specs.declared.Reply.the-variants.{Activation}
 use Rattle.kinds.specs.declared.Decision.{Decision}
 use Rattle.kinds.specs.declared.Decision.the-variants.{Now, Ask}
 use Rattle.kinds.specs.declared.HeadVerdict.{HeadVerdict}
 use Rattle.kinds.specs.declared.HeadVerdict.the-variants.{Pending, Answer, RunOut}
 use Rattle.model.specs.FarmSheet.{FarmSheet}
 use Rattle.model.specs.Row.{checkLimit, rowAt, wanted}
-use Rattle.model.specs.Farm.{Farm, Done, does, quietly, andThen, says, closed, closedWhere}
+use Rattle.model.specs.Farm.{Farm, Done, andThen, says, closed, closedWhere}
 use Rattle.model.specs.Line.{accepted, socketRules, isSilent, allAnswered, refusalOf, answered, advanced, verdictBy, headVerdict, serve}
 use Rattle.model.specs.Words.{Because, needsNone, allDid, ranOut}
 use Rattle.model.proofs.Cases.{pick-case}

@@ -8,11 +8,11 @@ use mathlib.Core.Bool.{Bool, true, false, false≢true}
 use mathlib.Core.List.{List, [], _∷_, _++_, map}
 use native.Mathlib.Nat.{mul-suc, mul-le-mul-left}
 use native.Mathlib.Omega.{arith}
-use lib.Dec.{eqb, leb, ltb}
-use lib.ListN.{getD, set, length, take, length-take}
+use lib.Dec.{eqb, leb}
+use lib.ListN.{getD, length, take, length-take}
 use lib.Seq.{getD-take}
-use borrow.Author.Tests.{leb-false, eqb-true, eqb-false, lt-ltb}
-use Rattle.octets.specs.Choice.{pick, both, unless}
+use borrow.Author.Tests.{eqb-true, eqb-false, lt-ltb}
+use Rattle.octets.specs.Choice.{both}
 use Rattle.octets.specs.Search.{firstAt}
 use Rattle.octets.specs.declared.Found.{Found}
 use Rattle.octets.specs.declared.Found.the-variants.{At, Nothing}
@@ -29,16 +29,16 @@ use Rattle.wire.specs.Header.{closes}
 use Rattle.model.specs.FarmSheet.{FarmSheet, TargetIs, stranger, unreachable, reachable}
 use Rattle.model.specs.Row.{checkLimit, mostTicks, stepped, clockOf, rowAt, freeRow, waitingRow, activeAs, isOpen, isFreeState, isFree, older, olderState, atLimitState, atLimit, freshRow}
 use Rattle.model.specs.Stream.{Event, inputEnded, wrong, finished, skipped, Taken}
-use Rattle.model.specs.Farm.{Farm, Done, does, quietly, andThen, withRow, withLine, withMarks, closed, closedWhere}
-use Rattle.model.specs.Line.{accepted, decide, answered, advanced, started, joined, isEmpty, without, leftBy, left, isAsked, marked, settle}
+use Rattle.model.specs.Farm.{Farm, Done, does, quietly, andThen, withRow, closed, closedWhere}
+use Rattle.model.specs.Line.{accepted, decide, answered, joined, isEmpty, without, leftBy, left, isAsked, marked, settle}
 use Rattle.model.specs.Bytes.{decidedBy, requested, toTarget, diagnosed, messaged, faulted, eventDone, heardRow, heard, takenBy, bytesDone}
-use Rattle.model.specs.Move.{Own, connect, bytes, peerClosed, linkLost, datagram, controller, Held, Given, Move, refused, gave, moves, connectedAt, connects, tookBytes, bytesBy, peerGone, clockRun, aged, ticked, datagramMove, toTester, controllerMove, isTarget, mostUser, move, tickMove}
+use Rattle.model.specs.Move.{Own, connect, bytes, peerClosed, linkLost, datagram, controller, Held, Move, connectedAt, connects, bytesBy, peerGone, clockRun, aged, ticked, datagramMove, toTester, controllerMove, isTarget, mostUser, move, tickMove}
 use Rattle.model.specs.Table.{heldBy, itemsBy}
-use Rattle.model.specs.Words.{Stands, first, behind, Answered, answers}
+use Rattle.model.specs.Words.{Stands, first, behind}
 use Rattle.model.proofs.Cases.{pick-case, unless-case, split}
 use Rattle.model.proofs.Seats.{closings-keep, closed-rows, closed-line, closed-clock}
 use Rattle.model.proofs.Rows.{row-other, row-map}
-use Rattle.model.proofs.Due.{After, gone, waits, then-after, Asks, Near, Due, Ends, Alike, near-same, answered-row, Passes, first-at, advanced-near, settle-due}
+use Rattle.model.proofs.Due.{After, waits, then-after, Asks, Near, Due, Ends, Alike, near-same, answered-row, Passes, first-at, advanced-near, settle-due}
 
 -- the call cuts the seat off
 abbrev pub isCut : ℕ → Own → Bool

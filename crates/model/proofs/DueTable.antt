@@ -1,36 +1,35 @@
 -- The due time along a history: another farm's call, or a refused one, leaves the farm's slot alone; its own calls and the accepted ticks
 -- do what they do to the farm.
 -- Assumes nothing.
-use Prim.Native.Nat.{ℕ, zero, suc, _+_, _*_, _≤_, _<_}
+use Prim.Native.Nat.{ℕ, zero, suc, _+_, _≤_, _<_}
 use mathlib.Core.Path.{_≡_, refl, sym, ap, subst, _∙_}
 use mathlib.Core.Bool.{Bool, true, false, false≢true}
-use mathlib.Core.List.{List, [], _∷_, _++_}
+use mathlib.Core.List.{List, [], _∷_}
 use native.Mathlib.Nat.{not-suc-le-zero, le-of-suc-le-suc, add-zero, zero-add}
 use native.Mathlib.Omega.{arith}
 use lib.Dec.{eqb, leb, ltb}
-use lib.ListN.{getD, length, set}
+use lib.ListN.{length}
 use lib.Seq.{getD-set-same, getD-set-other}
-use borrow.Author.Tests.{eqb-true, eqb-false, ne-eqb, eq-eqb, lt-ltb}
-use Rattle.octets.specs.Choice.{pick, both, unless, one}
+use borrow.Author.Tests.{eqb-true, eqb-false, ne-eqb, lt-ltb}
+use Rattle.octets.specs.Choice.{both, one}
 use Rattle.kinds.specs.declared.Item.{Item}
 use Rattle.kinds.specs.declared.Request.{Request}
-use Rattle.kinds.specs.declared.FarmNo.{FarmNo}
 use Rattle.sheet.specs.declared.rows.Owner.{Owner}
 use Rattle.sheet.specs.declared.rows.Owner.the-variants.{Seat, Nobody}
 use Rattle.sheet.specs.Sheet.{farmCount, farmNo}
 use Rattle.sheet.specs.Rows.{firstRow, ownerOf}
 use Rattle.sheet.specs.Test.{goodSheet}
-use Rattle.sheet.proofs.RowsLaws.{IsSeat, owner-seat}
+use Rattle.sheet.proofs.RowsLaws.{owner-seat}
 use Rattle.model.specs.FarmSheet.{FarmSheet, farmSheet, slotSheet}
-use Rattle.model.specs.Farm.{Farm, newFarm, Done, does}
-use Rattle.model.specs.Move.{Own, connect, bytes, peerClosed, linkLost, datagram, controller, Held, Given, Move, refused, gave, move, tickMove}
-use Rattle.model.specs.Table.{Table, slot, noHeld, goodTable, Call, connectTo, bytesFrom, peerClosedOn, linkLostOf, tick, datagramTo, messageFrom, Lent, leastOutput, assemblingSize, Whose, nobodys, farms, everyones, ofFarm, ofOwner, whose, Outcome, refuses, did, movedTo, heldBy, itemsBy, slotTick, tickTable, tickItems, called, ifLent, step, numberOf, itemsOf, tableOf}
+use Rattle.model.specs.Farm.{newFarm, Done, does}
+use Rattle.model.specs.Move.{Own, connect, bytes, peerClosed, linkLost, datagram, controller, Held, Move, refused, gave, move, tickMove}
+use Rattle.model.specs.Table.{Table, slot, noHeld, goodTable, Call, connectTo, bytesFrom, peerClosedOn, linkLostOf, tick, datagramTo, messageFrom, Lent, leastOutput, assemblingSize, Whose, nobodys, farms, everyones, ofFarm, ofOwner, whose, Outcome, refuses, did, movedTo, heldBy, itemsBy, slotTick, tickTable, tickItems, called, step, numberOf, itemsOf, tableOf}
 use Rattle.model.specs.History.{Made, stepOf}
-use Rattle.model.specs.Words.{Stands, first, behind, Answered, answers, isDone, isTick, acceptedTick, isLoss, cuts}
+use Rattle.model.specs.Words.{Stands, first, Answered, isDone, isTick, acceptedTick, isLoss, cuts}
 use Rattle.model.proofs.Cases.{pick-case, unless-case, split}
 use Rattle.model.proofs.Rank.{Kept, stops, goesOn}
 use Rattle.model.proofs.Due.{After, gone, waits, more-left, more-right, Due}
-use Rattle.model.proofs.DueCalls.{isCut, doneBy, Moved, own-moved, tick-moved, never-now}
+use Rattle.model.proofs.DueCalls.{isCut, Moved, own-moved, tick-moved, never-now}
 
 -- ---- slots
 
@@ -266,3 +265,20 @@ module _ (s : List ℕ) (g seat row : ℕ) (q : Request) (owner : ownerOf s row 
       kept t m n
       (step-case (KeptBy t (m .call) n) s (m .lent) t (m .call) (λ k. due n (rw (no-tick (isTick (m .call)) k) (omega arith)) d)
       (λ _ _. by-call n t (m .call) d))
+
+-- ---- what leaves a farm's slot alone
+
+-- a call that is refused
+pub refused-alone : (s : List ℕ) (t : Table) (m : Made) → isDone s t m ≡ false → tableOf t (stepOf s t m) ≡ t
+refused-alone s t m = by (stepOf s t m)
+  where
+    by : (o : Outcome) → eqb (numberOf o) 0 ≡ false → tableOf t o ≡ t
+    by (refuses n) e = refl
+    by (did d) e = absurd (false≢true (sym e))
+
+-- a call of another farm
+pub other-alone : (s : List ℕ) (t : Table) (m : Made) (f g : ℕ) (c : Own) → whose s (m .call) ≡ farms f c → eqb f g ≡ false
+    → slot (tableOf t (stepOf s t m)) g ≡ slot t g
+other-alone s t m f g c e n =
+    step-case (λ o. slot (tableOf t o) g ≡ slot t g) s (m .lent) t (m .call) (λ k. refl)
+    (λ _ _. rw e (slot-other t f g (move (slotSheet s f) (slot t f) c) n))

@@ -1,22 +1,19 @@
 -- Every response 0006 of a call of a farm: why it is sent.
 -- Assumes nothing.
-use Prim.Native.Nat.{ℕ, zero, suc, _+_, _≤_, _<_}
-use mathlib.Core.Path.{_≡_, refl, sym, ap, subst, _∙_}
+use Prim.Native.Nat.{ℕ}
+use mathlib.Core.Path.{_≡_, refl, ap, _∙_}
 use mathlib.Core.Bool.{Bool, true, false}
-use mathlib.Core.List.{List, [], _∷_, _++_}
+use mathlib.Core.List.{List, [], _∷_}
 use native.Mathlib.Omega.{arith}
 use lib.Dec.{eqb, leb}
-use lib.ListN.{getD, length, take}
+use lib.ListN.{length, take}
 use borrow.Author.Tests.{eqb-true}
 use Rattle.octets.specs.declared.Found.{Found}
 use Rattle.octets.specs.declared.Found.the-variants.{At, Nothing}
-use Rattle.octets.specs.Choice.{pick, unless}
 use Rattle.octets.specs.Search.{firstAt, sameList}
 use Rattle.kinds.specs.declared.Item.{Item}
 use Rattle.kinds.specs.declared.Answer.{Answer}
-use Rattle.kinds.specs.declared.Answer.the-variants.{Nothing as NoAnswer, With}
-use Rattle.kinds.specs.declared.Reply.{Reply}
-use Rattle.kinds.specs.declared.Reply.the-variants.{Activation, Nack, Ack, DiagnosticNack, HandOn, Message}
+use Rattle.kinds.specs.declared.Reply.the-variants.{Activation, Ack, HandOn}
 use Rattle.kinds.specs.declared.DatagramVerdict.{DatagramVerdict}
 use Rattle.kinds.specs.declared.DatagramVerdict.the-variants.{NotAnswered, Passes, Wrong}
 use Rattle.kinds.specs.declared.Fault.{Fault}
@@ -33,12 +30,12 @@ use Rattle.model.specs.FarmSheet.{FarmSheet, TargetIs, stranger, unreach
 use Rattle.model.specs.Row.{rowAt, activeAs, isOpen, isFree, atLimit}
 use Rattle.model.specs.Stream.{Event, inputEnded, wrong, finished, skipped, Taken}
 use Rattle.model.specs.Farm.{Farm, Done, does, quietly, andThen, says, closed, closedWhere, withLine}
-use Rattle.model.specs.Line.{accepted, decide, answered, advanced, started, joined, isEmpty, left, leftBy, cleared, settle, settleLine}
-use Rattle.model.specs.Bytes.{decidedBy, requested, toTarget, diagnosed, messaged, faulted, eventDone, heard, bytesDone}
-use Rattle.model.specs.Move.{Own, connect, bytes, peerClosed, linkLost, datagram, controller, Held, Move, refused, gave, connectedAt, connects, tookBytes, bytesBy, peerGone, linkGone, clockRun, aged, ticked, answers, datagramMove, toTester, controllerMove, isTarget, mostUser, move, tickMove}
+use Rattle.model.specs.Line.{accepted, decide, answered, joined, isEmpty, left, leftBy, cleared, settle}
+use Rattle.model.specs.Bytes.{decidedBy, requested, toTarget, diagnosed, faulted, eventDone, heard, bytesDone}
+use Rattle.model.specs.Move.{Own, connect, bytes, peerClosed, linkLost, datagram, controller, Held, Move, connectedAt, connects, bytesBy, peerGone, linkGone, clockRun, aged, ticked, answers, datagramMove, toTester, controllerMove, isTarget, mostUser, move, tickMove}
 use Rattle.model.specs.Table.{itemsBy}
-use Rattle.model.specs.Words.{takenOf, AnswerAt, Handed, afterBytes, afterClose, Why, atOnce, inLine}
-use Rattle.model.proofs.Cases.{pick-case, unless-case, split}
+use Rattle.model.specs.Words.{takenOf, Handed, afterBytes, afterClose, Why, atOnce, inLine}
+use Rattle.model.proofs.Cases.{pick-case, unless-case}
 use Rattle.model.proofs.DueMoment.{Each, none-each, one-each, append-each, then-each, Plain, closed-plain, closings-plain, started-plain, advanced-plain, Told, plain-told, settle-told}
 
 -- one that is said, then the row closes

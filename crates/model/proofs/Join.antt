@@ -1,13 +1,13 @@
 -- A request that must wait joins the end of its farm's line: one farm's part of it.
 -- Assumes nothing.
-use Prim.Native.Nat.{ℕ, zero, suc, _+_, _*_, _≤_, _<_}
-use mathlib.Core.Path.{_≡_, refl, sym, ap, subst, _∙_}
-use mathlib.Core.Bool.{Bool, true, false, false≢true, true≢false}
+use Prim.Native.Nat.{ℕ, zero, suc, _*_, _≤_, _<_}
+use mathlib.Core.Path.{_≡_, refl, sym, ap, _∙_}
+use mathlib.Core.Bool.{Bool, true, false}
 use mathlib.Core.List.{List, [], _∷_, _++_, append-nil}
 use native.Mathlib.Nat.{mul-suc}
 use native.Mathlib.Omega.{arith}
 use lib.Dec.{eqb, leb}
-use lib.ListN.{getD, set, length, length-set, take}
+use lib.ListN.{set, length, length-set, take}
 use borrow.Author.Tests.{eq-eqb}
 use Rattle.octets.specs.declared.Found.{Found}
 use Rattle.octets.specs.declared.Found.the-variants.{At, Nothing}
@@ -23,20 +23,19 @@ use Rattle.kinds.specs.declared.Check.{Check}
 use Rattle.kinds.specs.declared.Check.the-variants.{One, All}
 use Rattle.kinds.specs.declared.Decision.{Decision}
 use Rattle.kinds.specs.declared.Decision.the-variants.{Now, Ask}
-use Rattle.kinds.specs.declared.HeadVerdict.{HeadVerdict}
-use Rattle.kinds.specs.declared.HeadVerdict.the-variants.{Pending, Answer, RunOut}
+use Rattle.kinds.specs.declared.HeadVerdict.the-variants.{Pending}
 use Rattle.wire.specs.Payload.{requestIn}
 use Rattle.model.specs.FarmSheet.{FarmSheet}
-use Rattle.model.specs.Row.{checkLimit, rowAt, waitingRow, isOpenState, isWaitingState, isActiveState, activeAsState, isOpen, isWaiting, isActive, activeAs, wanted, heardState}
-use Rattle.model.specs.Stream.{Event, finished, Taken}
+use Rattle.model.specs.Row.{checkLimit, rowAt, waitingRow, isOpenState, isWaitingState, isActiveState, activeAsState, isWaiting, isActive, activeAs, wanted, heardState}
+use Rattle.model.specs.Stream.{finished, Taken}
 use Rattle.model.specs.Farm.{Farm, Done, quietly, andThen, seatCount, withRow, withLine}
-use Rattle.model.specs.Line.{accepted, byHolder, byState, socketRules, decide, asks, isSilent, allAnswered, started, asking, cleared, advanced, verdictBy, headVerdict, serve, settleLine, settle, isEmpty, joined}
-use Rattle.model.specs.Bytes.{decidedBy, requested, eventDone, heard, heardRow, bytesDone}
+use Rattle.model.specs.Line.{accepted, byHolder, byState, socketRules, decide, asks, isSilent, allAnswered, started, advanced, verdictBy, headVerdict, settleLine, settle, isEmpty, joined}
+use Rattle.model.specs.Bytes.{requested, eventDone, heard, heardRow, bytesDone}
 use Rattle.model.specs.Rule.{times, HeadKeeps, Good}
-use Rattle.model.specs.Words.{Stands, first, behind, Answered, answers}
-use Rattle.model.proofs.Cases.{pick-case, unless-case, split}
+use Rattle.model.specs.Words.{Stands, first, behind}
+use Rattle.model.proofs.Cases.{pick-case, unless-case}
 use Rattle.model.proofs.Rows.{row-set, row-same, row-other, open-in, count-same}
-use Rattle.model.proofs.Due.{After, gone, waits, then-after, Asks, Near, Due, Ends, Anew, advanced-anew, advanced-near, settle-due}
+use Rattle.model.proofs.Due.{waits, then-after, Near, Due, Ends, advanced-anew, advanced-near, settle-due}
 
 -- ---- a row that is not active, before and after a store: no rule on the line sees the difference
 

@@ -1,7 +1,7 @@
 -- The general argument of a bound by ticks, over any machine: a claim `Due x n`, "it ends within n ticks", that no call can raise,
 -- that a tick lowers, and that never stands at 0.
 -- Assumes nothing.
-use Prim.Native.Nat.{ℕ, zero, suc, _+_, _≤_, _<_}
+use Prim.Native.Nat.{ℕ, zero, suc, _+_, _≤_}
 use mathlib.Core.List.{List, [], _∷_}
 use native.Mathlib.Omega.{arith}
 

@@ -1,12 +1,11 @@
 -- The bound is met: a day on which the answers come with the accepted tick number checkLimit * k and not before, for k = 1 and k = 2.
 -- "q=2, A active as 0E00, B and C both ask for 0E00, all stay silent: tick 50 A closes, B gets 10 and a check; tick 100 B closes, C gets 10."
 -- Assumes nothing.
-use Prim.Native.Nat.{ℕ, zero, suc, _+_, _-_, _*_}
+use Prim.Native.Nat.{ℕ, zero, suc, _-_, _*_}
 use mathlib.Core.Path.{_≡_, refl}
 use mathlib.Core.Bool.{Bool, true, false}
 use mathlib.Core.List.{List, [], _∷_, _++_}
-use lib.Dec.{eqb}
-use lib.ListN.{length, replicate}
+use lib.ListN.{replicate}
 use Rattle.octets.specs.Fold.{upTo}
 use Rattle.octets.specs.Search.{firstAt, countIf, all, some, sameList}
 use Rattle.octets.specs.Parts.{parts}
@@ -26,9 +25,9 @@ use Rattle.model.specs.Stream.{feed, takes}
 use Rattle.model.specs.Farm.{seatCount, newFarm, andThen, eachSeat, closed, closedIf}
 use Rattle.model.specs.Line.{accepted, socketRules, decide, allAnswered, askedIf, started, advanced, answered, headVerdict, settleLine, joined, left, isAsked, marked}
 use Rattle.model.specs.Bytes.{requested, diagnosed, eventDone, heard, bytesDone}
-use Rattle.model.specs.Move.{noRow, connects, peerGone, linkGone, ticked, datagramMove, controllerMove, move, tickMove}
+use Rattle.model.specs.Move.{noRow, connects, peerGone, linkGone, ticked, move, tickMove}
 use Rattle.model.specs.RuleTest.{everySeat, goodFarm}
-use Rattle.model.specs.Table.{Table, slot, goodTable, Call, connectTo, bytesFrom, tick, Lent, leastOutput, assemblingSize, whose, step, tableOf}
+use Rattle.model.specs.Table.{Table, slot, goodTable, Call, connectTo, bytesFrom, tick, leastOutput, assemblingSize, whose, step, tableOf}
 use Rattle.model.specs.History.{Made, fresh, stepOf, run, keep}
 use Rattle.model.specs.Words.{MustWait, ticksIn, cutIn, entriesIn}
 
