@@ -250,11 +250,11 @@ module _ (own : FarmSheet) (seat : ℕ) (q : Request) (n : ℕ) where
       let e : Done = closedWhere own (isSilent check (f .marks)) f in
       let a : Farm → Done = answered own head (wanted (rowAt (f .rows) head)) accepted in
       let k : Asks seat q (e .farm) =
-          closings-keep own (isSilent check (f .marks)) (Asks seat q) f (d .asks)
-          (λ i x t p. rw (closed-rows own i x)
-          (rw (row-other (x .rows) i seat freeRow
-          (λ z. false≢true (sym (spared seat q check (f .marks) (rowAt (x .rows) seat) (w .1) p) ∙ subst (λ (j : ℕ). isSilent check (f .marks) j (rowAt (x .rows) j) ≡ true) (sym z) t))) p))
-          in
+      closings-keep own (isSilent check (f .marks)) (Asks seat q) f (d .asks)
+      (λ i x t p. rw (closed-rows own i x)
+      (rw (row-other (x .rows) i seat freeRow
+      (λ z. false≢true (sym (spared seat q check (f .marks) (rowAt (x .rows) seat) (w .1) p) ∙ subst (λ (j : ℕ). isSilent check (f .marks) j (rowAt (x .rows) j) ≡ true) (sym z) t))) p))
+      in
       front head rest (andThen e a) next (d .place) (subst (λ (x : List ℕ). Stands seat x (d .place)) l (d .at)) (w .0)
       (λ z. rw (then-items e a) (more-right (e .items) (rw z (rw (ap wantedBy (d .asks)) (answer-in own seat (q .address) accepted (e .farm))))))
       (λ ne. rw (then-farm e a, answered-row own head (wanted (rowAt (f .rows) head)) accepted (e .farm) seat (λ z. ne (sym z))) k)

@@ -68,8 +68,8 @@ then-says own f head closings d g a =
       because = a .because;
       rest = a .rest ++ g (d .farm) .items;
       entry =
-        ap (_++ g (d .farm) .items) (a .entry)
-        ∙ append-assoc closings (says own head (Activation (wanted (rowAt (f .rows) head)) (own .entity) (a .code)) ∷ a .rest) (g (d .farm) .items);
+          ap (_++ g (d .farm) .items) (a .entry)
+          ∙ append-assoc closings (says own head (Activation (wanted (rowAt (f .rows) head)) (own .entity) (a .code)) ∷ a .rest) (g (d .farm) .items);
     }
 
 -- THE ANSWER: whenever the head of a line is served, it gets one code, the one that the rules give on the farm as it is at that moment:

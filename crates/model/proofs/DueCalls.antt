@@ -239,7 +239,7 @@ module _ (own : FarmSheet) (seat : ℕ) (q : Request) (n : ℕ) where
   tick-near : (f : Farm) → Due seat q (suc n) f → Near seat q n (aged (clockRun (f .line) f))
   tick-near f d =
       let c : clockRun (f .line) f .clock ≡ clockOf (f .clock .ticks + 1) =
-          clock-runs f (d .near .at) ∙ stepped-is (f .clock) (d .running) in
+      clock-runs f (d .near .at) ∙ stepped-is (f .clock) (d .running) in
       let e : clockRun (f .line) f .clock .ticks ≡ f .clock .ticks + 1 = ap (λ (x : Clock). x .ticks) c in
       record {
         place = d .near .place;

@@ -121,8 +121,8 @@ module _ (own : FarmSheet) (head : ℕ) (rest : List ℕ) (f : Farm) where
         head = x .head;
         moment = x .moment;
         reached =
-          nextHead (λ q. n (sym e ∙ q))
-          (subst (λ (u : HeadVerdict). Moment own rest (serve own head rest f u quietly .farm) (x .head) (x .moment)) (sym e) (x .reached));
+            nextHead (λ q. n (sym e ∙ q))
+            (subst (λ (u : HeadVerdict). Moment own rest (serve own head rest f u quietly .farm) (x .head) (x .moment)) (sym e) (x .reached));
         code = x .code;
         because = x .because;
         isEntry = x .isEntry;

@@ -192,13 +192,13 @@ module _ (own : FarmSheet) (f : Farm) (seat : ℕ) (t : Taken) (size : ℕ) (req
       })
       (λ e. record {
         near =
-          record {
-            place = length (f .line);
-            at = stands-end seat (f .line);
-            runs = omega arith;
-            within = omega (arith, mul-suc checkLimit (length (f .line)));
-            asks = waits-there;
-          };
+            record {
+              place = length (f .line);
+              at = stands-end seat (f .line);
+              runs = omega arith;
+              within = omega (arith, mul-suc checkLimit (length (f .line)));
+              asks = waits-there;
+            };
         running = r;
       })
 
