@@ -32,12 +32,14 @@ fn image(row: RowNo, version: u8, tag: u8, code: u8, a: u16, b: u16) -> [u8; SIZ
     ]
 }
 
+// A byte as the upper half of a number: a status has two bytes to keep, and an item has room for one code.
 fn upper(x: u8) -> u16
     ensures { λ r. ⌜ r ≡ x * 256 ⌝ }
 {
     (x as u16) * 256
 }
 
+// The tags are this crate's own; `reply_from` is the other way.
 fn item_bytes(it: Item) -> [u8; SIZE]
     ensures { λ r. ⌜ r ≡ itemImage it ⌝ }
 {
