@@ -20,17 +20,13 @@ use Rattle.kinds.specs.declared.Item.{Item}
 use Rattle.outsheet.specs.Sheet.{entryBytes, bodies, totalOf}
 use Rattle.outsheet.specs.Replies.{identityOf, replyBytes, entryOf, entriesOf, isLong, isLongItem}
 use Rattle.outsheet.specs.Plan.{planRoom, PlanOk, itemsOf}
-use Rattle.outsheet.specs.Contracts.{leastOutput, Room}
+use Rattle.outsheet.specs.Contracts.{leastOutput, longest, Room}
 use Rattle.outsheet.proofs.PlanLaws.{items-few}
 use Rattle.outsheet.proofs.SheetLaws.{length-entry}
 
 -- of a lent record, the identity is sent
 pub identity-sent : (v : ℕ) (farm : List ℕ) → length farm ≡ farmRecordSize → identityOf v farm ≡ identityBytes v farm
 identity-sent v farm e = rw (eq-eqb (length farm) farmRecordSize e)
-
--- the longest payload of a call
-abbrev pub longest : ℕ
-longest = 2048
 
 identity-most : (v : ℕ) (farm : List ℕ) (b : Bool) → length (pick b (identityBytes v farm) []) ≤ 40
 identity-most v farm true = identity-short v farm
