@@ -4,4 +4,5 @@ pub mod Seats
 pub mod Split
 pub mod SoundRows
 pub mod SoundClose
+pub mod SoundLine
 pub mod Try
