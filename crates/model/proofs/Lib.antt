@@ -5,4 +5,5 @@ pub mod Split
 pub mod SoundRows
 pub mod SoundClose
 pub mod SoundLine
+pub mod SoundStream
 pub mod Try
