@@ -6,4 +6,5 @@ pub mod SoundRows
 pub mod SoundClose
 pub mod SoundLine
 pub mod SoundStream
+pub mod SoundBytes
 pub mod Try
