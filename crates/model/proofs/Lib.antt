@@ -7,4 +7,5 @@ pub mod SoundClose
 pub mod SoundLine
 pub mod SoundStream
 pub mod SoundBytes
+pub mod SoundMove
 pub mod Try

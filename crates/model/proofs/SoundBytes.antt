@@ -218,3 +218,38 @@ module _ {own : FarmSheet} {f : Farm} (seat : ℕ) (s : Sound own f) (k : Talks 
       by (Active b c) e t u =
           pick-case P (eqb b (q .address)) _ _ (λ v. accepted-sound (q .address) (again-fits (q .address) b c e (eqb-true b (q .address) v) t))
           (λ _. refused-sound (q .address) 2 two-code)
+
+  -- ---- the other messages, and a header that is wrong
+
+  pub marked-sound : (a : ℕ) → Sound own (marked own seat a f)
+  unfolding marked
+  marked-sound a =
+      pick-case (Sound own) (both (activeAs a (rowAt (f .rows) seat)) (isAsked own f seat)) _ _
+      (λ _. sound-from (kept-of s) (s .young) (s .lined) (length-set (f .marks) seat true ∙ s .marksToo)) (λ _. s)
+
+  pub diagnosed-sound : (e : Ends) → Sound own (diagnosed own seat e f .farm)
+  unfolding diagnosed andThen
+  diagnosed-sound e =
+      pick-case (λ (d : Done). Sound own (d .farm)) (activeAs (e .source) (rowAt (f .rows) seat)) _ _ (λ _. by (own .target (e .target)))
+      (λ _. closed-sound seat (k .loud) s)
+    where
+      by : (t : TargetIs) → Sound own (toTarget own seat e t f .farm)
+      by stranger = s
+      by unreachable = s
+      by reachable = s
+
+  pub event-sound : (e : Event) (room : List ℕ) → Sound own (eventDone own seat e room f .farm)
+  unfolding eventDone andThen
+  event-sound inputEnded room = s
+  event-sound (wrong fault) room = pick-case (λ (d : Done). Sound own (d .farm)) (closes fault) _ _ (λ _. closed-sound seat (k .loud) s) (λ _. s)
+  event-sound (finished kind size) room =
+      pick-case (λ (d : Done). Sound own (d .farm)) (eqb kind 0x0005) _ _ (λ _. requested-sound (requestIn (take size room)))
+      (λ _. pick-case (λ (d : Done). Sound own (d .farm)) (eqb kind 0x0008) _ _ (λ _. marked-sound (addressIn (take size room)))
+      (λ _. pick-case (λ (d : Done). Sound own (d .farm)) (eqb kind 0x8001) _ _ (λ _. diagnosed-sound (endsIn (take size room))) (λ _. s)))
+  event-sound (skipped size) room = s
+
+-- A BYTES CALL KEEPS THE RULES: of a row that is open and not waiting, whatever it takes
+pub bytes-sound : {own : FarmSheet} {f : Farm} (seat : ℕ) (t : Taken) → FarmOk own → Sound own f → Talks f seat → PossibleIn (t .stream)
+    → Sound own (bytesDone own seat t f .farm)
+unfolding bytesDone andThen
+bytes-sound seat t ok s k p = settle-sound ok (event-sound seat (heard-sound seat t s k p) (heard-talks seat t s k) (t .event) (t .stream .room))
