@@ -8,4 +8,5 @@ pub mod SoundLine
 pub mod SoundStream
 pub mod SoundBytes
 pub mod SoundMove
+pub mod SoundItems
 pub mod Try

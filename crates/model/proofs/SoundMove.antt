@@ -106,7 +106,7 @@ connects-sound {own} h s =
 
 -- ---- peer closed
 
-left-sound : {own : FarmSheet} {f : Farm} (seat : ℕ) → seat < length (f .rows) → Sound own f → Sound own (left own seat (closed own seat f .farm) .farm)
+pub left-sound : {own : FarmSheet} {f : Farm} (seat : ℕ) → seat < length (f .rows) → Sound own f → Sound own (left own seat (closed own seat f .farm) .farm)
 unfolding left closed countIf
 left-sound {own} {f} seat inside s = by (f .line) refl
   where
@@ -188,7 +188,7 @@ module _ (own : FarmSheet) where
   older-keeps r (Waiting q) k = k
   older-keeps r (Active a c) k = k
 
-older-kept : {own : FarmSheet} {rows : List Row} → Kept own rows → Kept own (map older rows)
+pub older-kept : {own : FarmSheet} {rows : List Row} → Kept own rows → Kept own (map older rows)
 older-kept {own} {rows} k =
     record {
       seats = length-map rows older ∙ k .seats;
@@ -202,13 +202,13 @@ older-kept {own} {rows} k =
     at : (i : ℕ) → rowAt (map older rows) i ≡ older (rowAt rows i)
     at i = row-map older refl rows i
 
-clocked : {own : FarmSheet} {f : Farm} (line : List ℕ) → Sound own f → Sound own (clockRun line f)
+pub clocked : {own : FarmSheet} {f : Farm} (line : List ℕ) → Sound own f → Sound own (clockRun line f)
 clocked [] s = s
 clocked (head ∷ rest) s = sound-from (kept-of s) (s .young) (s .lined) (s .marksToo)
 
-ticked-sound : {own : FarmSheet} {f : Farm} → FarmOk own → Sound own f → Sound own (ticked own f .farm)
-unfolding ticked andThen
-ticked-sound {own} {f} ok z = settle-sound ok (closes-old (clockRun (f .line) f) (clocked (f .line) z))
+-- a tick before its settling: the rows at their limit are closed
+pub expired-sound : {own : FarmSheet} {f : Farm} → Sound own f → Sound own (closedWhere own (λ seat r. atLimit r) (aged (clockRun (f .line) f)) .farm)
+expired-sound {own} {f} z = closes-old (clockRun (f .line) f) (clocked (f .line) z)
   where
     closes-old : (g : Farm) → Sound own g → Sound own (closedWhere own (λ seat r. atLimit r) (aged g) .farm)
     closes-old g s =
@@ -218,6 +218,10 @@ ticked-sound {own} {f} ok z = settle-sound ok (closes-old (clockRun (f .line) f)
         (closings-lined own (λ seat r. atLimit r) (aged g) (λ i t. limit-loud (rowAt (map older (g .rows)) i .state) t)
         (λ i. s .lined i ∙ ap one (sym (ap isWaiting (row-map older refl (g .rows) i) ∙ older-waiting own (rowAt (g .rows) i .state))))))
         (ap length (closings-marks own (λ seat r. atLimit r) (aged g)) ∙ s .marksToo)
+
+ticked-sound : {own : FarmSheet} {f : Farm} → FarmOk own → Sound own f → Sound own (ticked own f .farm)
+unfolding ticked andThen
+ticked-sound ok s = settle-sound ok (expired-sound s)
 
 -- ---- all calls
 

@@ -1,0 +1,199 @@
+-- Every entry that a farm makes is on one of its own rows.
+-- Assumes nothing.
+use Prim.Native.Nat.{ℕ, zero, suc, _+_, _≤_, _<_}
+use mathlib.Core.Path.{_≡_, refl, sym, ap, subst, _∙_}
+use mathlib.Core.Bool.{Bool, true, false, false≢true, true≢false}
+use mathlib.Core.List.{List, [], _∷_, _++_, map}
+use native.Mathlib.Omega.{arith}
+use lib.Dec.{eqb, leb, ltb}
+use lib.ListN.{getD, set, take, length}
+use borrow.Author.Tests.{le-leb, lt-ltb, eqb-true}
+use Rattle.octets.specs.declared.Found.{Found}
+use Rattle.octets.specs.declared.Found.the-variants.{At, Nothing}
+use Rattle.octets.specs.Choice.{pick, both, unless}
+use Rattle.octets.specs.Search.{firstAt, countIf, all}
+use Rattle.octets.specs.Fold.{upTo}
+use Rattle.kinds.specs.declared.Fault.{Fault}
+use Rattle.kinds.specs.declared.Item.{Item}
+use Rattle.kinds.specs.declared.Reply.{Reply}
+use Rattle.kinds.specs.declared.Request.{Request}
+use Rattle.kinds.specs.declared.RowState.{RowState}
+use Rattle.kinds.specs.declared.RowState.the-variants.{Free, Fresh, Waiting, Active}
+use Rattle.kinds.specs.declared.Row.{Row}
+use Rattle.kinds.specs.declared.Check.{Check}
+use Rattle.kinds.specs.declared.Check.the-variants.{One, All}
+use Rattle.kinds.specs.declared.Decision.{Decision}
+use Rattle.kinds.specs.declared.Decision.the-variants.{Now, Ask}
+use Rattle.kinds.specs.declared.HeadVerdict.{HeadVerdict}
+use Rattle.kinds.specs.declared.HeadVerdict.the-variants.{Pending, Answer, RunOut}
+use Rattle.wire.specs.declared.payload.Ends.{Ends}
+use Rattle.wire.specs.Header.{closes}
+use Rattle.wire.specs.Payload.{requestIn, addressIn, endsIn}
+use Rattle.model.specs.FarmSheet.{FarmSheet, TargetIs, stranger, unreachable, reachable}
+use Rattle.model.specs.Row.{freeRow, waitingRow, rowAt, isOpenState, isOpen, isWaitingState, isWaiting, isActive, activeAs, wanted, older, atLimit}
+use Rattle.model.specs.Stream.{Event, inputEnded, wrong, finished, skipped, Taken, streamOf}
+use Rattle.model.specs.Farm.{Farm, seatCount, withRow, withLine, Done, does, quietly, andThen, eachSeat, says, closed, closedIf, closedWhere}
+use Rattle.model.specs.Line.{accepted, socketRules, decide, asks, isSilent, askedIf, asking, cleared, startedBy, started, advanced, answered, headVerdict, serve, settleLine, settle, isEmpty, joined, without, leftBy, left}
+use Rattle.model.specs.Bytes.{decidedBy, requested, toTarget, diagnosed, messaged, faulted, eventDone, heard, takenBy, bytesDone}
+use Rattle.model.specs.Move.{Own, connect, bytes, peerClosed, linkLost, datagram, controller, Held, Given, Move, refused, gave, connectedAt, connects, tookBytes, bytesBy, peerGone, linkGone, clockRun, aged, ticked, mostUser, isTarget, toTester, controllerMove, move, tickMove}
+use Rattle.model.specs.Rule.{Good}
+use Rattle.model.specs.History.{onRow}
+use Rattle.model.proofs.Cases.{pick-case, unless-case, split}
+use Rattle.model.proofs.Rows.{row-set, open-in}
+use Rattle.model.proofs.Split.{Sound, FarmOk, sound-of}
+use Rattle.model.proofs.SoundRows.{Kept, Lined, kept-of, waiting-open, active-open, as-active, limit-open, wanted-tester, active-loud, ours, free-kept, head-waits}
+use Rattle.model.proofs.SoundClose.{closings-kept, closings-young, closings-lined}
+use Rattle.model.proofs.SoundLine.{first-case, socket-case, Ready, ready-of, advanced-line, advanced-sound, answered-ready, Licence, head-licence}
+use Rattle.model.proofs.SoundStream.{takes-well}
+use Rattle.model.proofs.SoundBytes.{Talks, heard-sound, heard-talks, event-sound}
+use Rattle.model.proofs.SoundMove.{Gives, left-sound, older-kept, clocked, expired-sound}
+
+-- ---- entries one after another
+
+-- all entries are on rows of the farm
+abbrev pub Mine : FarmSheet → List Item → Type 0
+Mine own items = all (onRow own) items ≡ true
+
+-- every open row is the farm's
+abbrev Homes : FarmSheet → List Row → Type 0
+Homes own rows = (i : ℕ) → isOpen (rowAt rows i) ≡ true → i < own .rows
+
+module _ (own : FarmSheet) where
+  nothing-mine : Mine own []
+  unfolding all
+  nothing-mine = refl
+
+  pub says-on : (seat : ℕ) (reply : Reply) → seat < own .rows → onRow own (says own seat reply) ≡ true
+  says-on seat reply h =
+      rw (le-leb (own .first) (own .first + seat) (omega arith)) (lt-ltb (own .first + seat) (own .first + own .rows) (omega arith))
+
+  says-mine : (seat : ℕ) (reply : Reply) → seat < own .rows → Mine own (says own seat reply ∷ [])
+  unfolding all
+  says-mine seat reply h = rw (says-on seat reply h) refl
+
+  append-mine : (l m : List Item) → Mine own l → Mine own m → Mine own (l ++ m)
+  unfolding all
+  append-mine [] m p q = q
+  append-mine (x ∷ l) m p q =
+      split (onRow own x) (λ e. rw e (append-mine l m (rw e at p) q)) (λ e. absurd (false≢true (rw e at p)))
+
+  then-mine : (d : Done) (g : Farm → Done) → Mine own (d .items) → Mine own (g (d .farm) .items) → Mine own (andThen d g .items)
+  unfolding andThen
+  then-mine d g p q = append-mine (d .items) (g (d .farm) .items) p q
+
+  each-mine : (g : ℕ → Farm → Done) (P : Farm → Type 0) (f : Farm) → P f → ((i : ℕ) (x : Farm) → P x → P (g i x .farm) × Mine own (g i x .items))
+      → Mine own (eachSeat g f .items)
+  unfolding eachSeat upTo andThen
+  each-mine g P f p k = go seatCount .1
+    where
+      go : (n : ℕ) → P (upTo (λ i d. andThen d (g i)) (quietly f) n .farm) × Mine own (upTo (λ i d. andThen d (g i)) (quietly f) n .items)
+      go zero = (p, nothing-mine)
+      go (suc n) =
+          let d : Done = upTo (λ i d. andThen d (g i)) (quietly f) n in
+          let r : P (g n (d .farm) .farm) × Mine own (g n (d .farm) .items) = k n (d .farm) (go n .0) in
+          (r .0, append-mine (d .items) (g n (d .farm) .items) (go n .1) (r .1))
+
+  -- ---- closings, answers, alive checks
+
+  closed-mine : (seat : ℕ) (f : Farm) → seat < own .rows → Mine own (closed own seat f .items)
+  unfolding closed
+  closed-mine seat f h = says-mine seat _ h
+
+  -- the rows that close are the farm's; a row that is freed was one of them
+  closings-mine : (test : ℕ → Row → Bool) (f : Farm) → ((i : ℕ) → test i (rowAt (f .rows) i) ≡ true → i < own .rows)
+      → Mine own (closedWhere own test f .items)
+  unfolding closedIf closed
+  closings-mine test f h =
+      each-mine (closedIf own test) P f h
+      (λ i x p. pick-case (λ (d : Done). P (d .farm) × Mine own (d .items)) (test i (rowAt (x .rows) i)) _ _
+      (λ e. ((λ k. row-set (x .rows) i k freeRow (λ y. test k y ≡ true → k < own .rows) (λ q _ _. subst (λ j. j < own .rows) (sym q) (p i e)) (p k)),
+      says-mine i _ (p i e)))
+      (λ _. (p, nothing-mine)))
+    where
+      P : Farm → Type 0
+      P x = (i : ℕ) → test i (rowAt (x .rows) i) ≡ true → i < own .rows
+
+  answered-mine : (seat a code : ℕ) (f : Farm) → seat < own .rows → Mine own (answered own seat a code f .items)
+  unfolding answered
+  answered-mine seat a code f h =
+      pick-case (λ (d : Done). Mine own (d .items)) (eqb code accepted) _ _ (λ _. says-mine seat _ h)
+      (λ _. then-mine _ (closed own seat) (says-mine seat _ h) (closed-mine seat f h))
+
+  -- an alive check goes to active rows
+  check-mine : (check : Check) (f : Farm) → ((i : ℕ) → asks check i (rowAt (f .rows) i) ≡ true → i < own .rows)
+      → Mine own (eachSeat (askedIf own check) f .items)
+  unfolding askedIf
+  check-mine check f h =
+      each-mine (askedIf own check) P f h
+      (λ i x p. pick-case (λ (d : Done). P (d .farm) × Mine own (d .items)) (asks check i (rowAt (x .rows) i)) _ _ (λ e. (p, says-mine i _ (p i e)))
+      (λ _. (p, nothing-mine)))
+    where
+      P : Farm → Type 0
+      P x = (i : ℕ) → asks check i (rowAt (x .rows) i) ≡ true → i < own .rows
+
+  started-mine : (f : Farm) → Homes own (f .rows) → Mine own (started own f .items)
+  unfolding started
+  started-mine f h = by (f .line)
+    where
+      by : (line : List ℕ) → Mine own (startedBy own line f .items)
+      by [] = nothing-mine
+      by (head ∷ rest) =
+          let a : ℕ = wanted (rowAt (f .rows) head) in
+          socket-case (λ d. Mine own (asking own d (cleared f) .items)) own (f .rows) a
+          (λ s e _. check-mine (One s) (cleared f)
+          (λ i t. subst (λ j. j < own .rows) (sym (eqb-true i s t)) (h s (active-open (rowAt (f .rows) s .state) (as-active a (rowAt (f .rows) s .state) e)))))
+          (λ _ _. check-mine All (cleared f) (λ i t. h i (active-open (rowAt (f .rows) i .state) t)))
+          (λ _ _. nothing-mine)
+
+  advanced-mine : (rest : List ℕ) (f : Farm) → Homes own (f .rows) → Mine own (advanced own rest f .items)
+  unfolding advanced
+  advanced-mine rest f h = started-mine (withLine f rest) h
+
+  -- ---- settling
+
+  serve-mine : (f : Farm) (head : ℕ) (rest : List ℕ) (v : HeadVerdict) (next : Farm → Done) → f .line ≡ head ∷ rest → Sound own f
+      → Licence own f (wanted (rowAt (f .rows) head)) v → ((g : Farm) → g .line ≡ rest → Sound own g → Mine own (next g .items))
+      → Mine own (serve own head rest f v next .items)
+  unfolding andThen
+  serve-mine f head rest v next e s l ih = by v l
+    where
+      a : ℕ
+      a = wanted (rowAt (f .rows) head)
+      ready : Ready own (head ∷ rest) f
+      ready = subst (λ line. Ready own line f) e (ready-of s)
+      waits : isWaiting (rowAt (f .rows) head) ≡ true
+      waits = head-waits (f .rows) head rest (ready .lined)
+      known : own .tester a ≡ true
+      known = wanted-tester own (rowAt (f .rows) head) (rowAt (f .rows) head .state) waits (s .rowsKeep head)
+      home : head < own .rows
+      home = ours (kept-of s) head (waiting-open (rowAt (f .rows) head .state) waits)
+      goes-on : (d : Done) → Mine own (d .items) → Ready own rest (d .farm) → Mine own (andThen (andThen d (advanced own rest)) next .items)
+      goes-on d p r =
+          then-mine (andThen d (advanced own rest)) next (then-mine d (advanced own rest) p (advanced-mine rest (d .farm) (ours (r .kept))))
+          (ih (advanced own rest (d .farm) .farm) (advanced-line own rest (d .farm)) (advanced-sound r))
+      by : (w : HeadVerdict) → Licence own f a w → Mine own (serve own head rest f w next .items)
+      by Pending l = nothing-mine
+      by (Answer code) l = goes-on (answered own head a code f) (answered-mine head a code f home) (answered-ready head a code known l ready)
+      by (RunOut check) l =
+          let test : ℕ → Row → Bool = isSilent check (f .marks) in
+          goes-on (andThen (closedWhere own test f) (answered own head a accepted))
+          (then-mine (closedWhere own test f) (answered own head a accepted)
+          (closings-mine test f (λ i t. ours (kept-of s) i (active-open (rowAt (f .rows) i .state) (l .1 i t))))
+          (answered-mine head a accepted (closedWhere own test f .farm) home))
+          (answered-ready {f = closedWhere own test f .farm} head a accepted known (λ _. l .0)
+          (record {
+            kept = closings-kept own test f (kept-of s);
+            young = closings-young own test f (s .young);
+            lined = subst (Lined (closedWhere own test f .farm .rows)) e
+                (closings-lined own test f (λ i t. active-loud (rowAt (f .rows) i .state) (l .1 i t)) (s .lined));
+          }))
+
+  settleLine-mine : (line : List ℕ) (f : Farm) → f .line ≡ line → Sound own f → Mine own (settleLine own line f .items)
+  unfolding settleLine
+  settleLine-mine [] f e s = nothing-mine
+  settleLine-mine (head ∷ rest) f e s =
+      serve-mine f head rest (headVerdict own f head) (settleLine own rest) e s (head-licence head s) (λ g q t. settleLine-mine rest g q t)
+
+  -- what settling says is on the farm's rows
+  pub settle-mine : (f : Farm) → Sound own f → Mine own (settle own f .items)
+  settle-mine f s = settleLine-mine (f .line) f refl s
