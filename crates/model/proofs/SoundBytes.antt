@@ -24,10 +24,10 @@ use Rattle.wire.specs.Header.{closes}
 use Rattle.wire.specs.Payload.{requestIn, addressIn, endsIn}
 use Rattle.model.specs.FarmSheet.{FarmSheet, TargetIs, stranger, unreachable, reachable}
 use Rattle.model.specs.Row.{generalLimit, clockOf, freeRow, waitingRow, activeRow, rowAt, isOpenState, isOpen, isWaitingState, isWaiting, isActiveState, isActive, activeAsState, activeAs, atLimitState, atLimit, heardState}
-use Rattle.model.specs.Stream.{Event, inputEnded, wrong, finished, skipped, Taken}
+use Rattle.model.specs.Stream.{Event, inputEnded, wrong, finished, skipped, Taken, streamOf}
 use Rattle.model.specs.Farm.{Farm, Done, quietly, andThen, closed}
 use Rattle.model.specs.Line.{accepted, byState, socketRules, decide, answered, isEmpty, joined, isAsked, marked, settle}
-use Rattle.model.specs.Bytes.{decidedBy, requested, toTarget, diagnosed, messaged, faulted, eventDone, heardRow, heard, bytesDone}
+use Rattle.model.specs.Bytes.{decidedBy, requested, toTarget, diagnosed, messaged, faulted, eventDone, heardRow, heard, takenBy, bytesDone}
 use Rattle.model.specs.Rule.{times, RowKeeps, PossibleAt}
 use Rattle.model.proofs.Cases.{pick-case, unless-case, split}
 use Rattle.model.proofs.Rows.{row-same, open-in, times-append}
@@ -35,7 +35,7 @@ use Rattle.model.proofs.Split.{Sound, FarmOk}
 use Rattle.model.proofs.SoundRows.{Kept, Lined, Young, kept-of, sound-from, active-young, Fits, put-kept, put-young, put-lined}
 use Rattle.model.proofs.SoundClose.{closed-sound}
 use Rattle.model.proofs.SoundLine.{socket-case, started-sound, Room, room-fits, settle-sound}
-use Rattle.model.proofs.SoundStream.{PossibleIn}
+use Rattle.model.proofs.SoundStream.{PossibleIn, takes-well}
 
 -- the codes that a request can get at once, but the one that accepts
 zero-code : eqb 0x00 accepted ≡ false
@@ -247,6 +247,10 @@ module _ {own : FarmSheet} {f : Farm} (seat : ℕ) (s : Sound own f) (k : Talks 
       (λ _. pick-case (λ (d : Done). Sound own (d .farm)) (eqb kind 0x0008) _ _ (λ _. marked-sound (addressIn (take size room)))
       (λ _. pick-case (λ (d : Done). Sound own (d .farm)) (eqb kind 0x8001) _ _ (λ _. diagnosed-sound (endsIn (take size room))) (λ _. s)))
   event-sound (skipped size) room = s
+
+-- what a bytes call takes leaves the stream at a possible place
+pub taken-well : {own : FarmSheet} {f : Farm} (seat : ℕ) (room input : List ℕ) → Sound own f → PossibleIn (takenBy seat room input f .stream)
+taken-well {own} {f} seat room input s = takes-well (streamOf (rowAt (f .rows) seat .place) (rowAt (f .rows) seat .head) room) input (s .possible seat)
 
 -- A BYTES CALL KEEPS THE RULES: of a row that is open and not waiting, whatever it takes
 pub bytes-sound : {own : FarmSheet} {f : Farm} (seat : ℕ) (t : Taken) → FarmOk own → Sound own f → Talks f seat → PossibleIn (t .stream)

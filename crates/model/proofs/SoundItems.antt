@@ -30,7 +30,7 @@ use Rattle.wire.specs.declared.payload.Ends.{Ends}
 use Rattle.wire.specs.Header.{closes}
 use Rattle.wire.specs.Payload.{requestIn, addressIn, endsIn}
 use Rattle.model.specs.FarmSheet.{FarmSheet, TargetIs, stranger, unreachable, reachable}
-use Rattle.model.specs.Row.{freeRow, waitingRow, rowAt, isOpenState, isOpen, isWaitingState, isWaiting, isActive, activeAs, wanted, older, atLimit}
+use Rattle.model.specs.Row.{freeRow, waitingRow, rowAt, isFree, isOpenState, isOpen, isWaitingState, isWaiting, isActive, activeAs, wanted, older, atLimit}
 use Rattle.model.specs.Stream.{Event, inputEnded, wrong, finished, skipped, Taken, streamOf}
 use Rattle.model.specs.Farm.{Farm, seatCount, withRow, withLine, Done, does, quietly, andThen, eachSeat, says, closed, closedIf, closedWhere}
 use Rattle.model.specs.Line.{accepted, socketRules, decide, asks, isSilent, askedIf, asking, cleared, startedBy, started, advanced, answered, headVerdict, serve, settleLine, settle, isEmpty, joined, without, leftBy, left}
@@ -40,12 +40,13 @@ use Rattle.model.specs.Rule.{Good}
 use Rattle.model.specs.History.{onRow}
 use Rattle.model.proofs.Cases.{pick-case, unless-case, split}
 use Rattle.model.proofs.Rows.{row-set, open-in}
+use Rattle.model.proofs.Seats.{then-farm}
 use Rattle.model.proofs.Split.{Sound, FarmOk, sound-of}
 use Rattle.model.proofs.SoundRows.{Kept, Lined, kept-of, waiting-open, active-open, as-active, limit-open, wanted-tester, active-loud, ours, free-kept, head-waits}
 use Rattle.model.proofs.SoundClose.{closings-kept, closings-young, closings-lined}
-use Rattle.model.proofs.SoundLine.{first-case, socket-case, Ready, ready-of, advanced-line, advanced-sound, answered-ready, Licence, head-licence}
-use Rattle.model.proofs.SoundStream.{takes-well}
-use Rattle.model.proofs.SoundBytes.{Talks, heard-sound, heard-talks, event-sound}
+use Rattle.model.proofs.SoundLine.{first-case, socket-case, Ready, advanced-line, advanced-sound, Licence, head-licence, served-waits, answer-ready, run-out-ready}
+use Rattle.model.proofs.SoundStream.{PossibleIn}
+use Rattle.model.proofs.SoundBytes.{Talks, heard-sound, heard-talks, event-sound, taken-well}
 use Rattle.model.proofs.SoundMove.{Gives, left-sound, older-kept, clocked, expired-sound}
 
 -- ---- entries one after another
@@ -159,34 +160,22 @@ module _ (own : FarmSheet) where
     where
       a : ℕ
       a = wanted (rowAt (f .rows) head)
-      ready : Ready own (head ∷ rest) f
-      ready = subst (λ line. Ready own line f) e (ready-of s)
-      waits : isWaiting (rowAt (f .rows) head) ≡ true
-      waits = head-waits (f .rows) head rest (ready .lined)
-      known : own .tester a ≡ true
-      known = wanted-tester own (rowAt (f .rows) head) (rowAt (f .rows) head .state) waits (s .rowsKeep head)
       home : head < own .rows
-      home = ours (kept-of s) head (waiting-open (rowAt (f .rows) head .state) waits)
+      home = ours (kept-of s) head (waiting-open (rowAt (f .rows) head .state) (served-waits head rest e s))
       goes-on : (d : Done) → Mine own (d .items) → Ready own rest (d .farm) → Mine own (andThen (andThen d (advanced own rest)) next .items)
       goes-on d p r =
           then-mine (andThen d (advanced own rest)) next (then-mine d (advanced own rest) p (advanced-mine rest (d .farm) (ours (r .kept))))
           (ih (advanced own rest (d .farm) .farm) (advanced-line own rest (d .farm)) (advanced-sound r))
       by : (w : HeadVerdict) → Licence own f a w → Mine own (serve own head rest f w next .items)
       by Pending l = nothing-mine
-      by (Answer code) l = goes-on (answered own head a code f) (answered-mine head a code f home) (answered-ready head a code known l ready)
+      by (Answer code) l = goes-on (answered own head a code f) (answered-mine head a code f home) (answer-ready head rest e s code l)
       by (RunOut check) l =
           let test : ℕ → Row → Bool = isSilent check (f .marks) in
           goes-on (andThen (closedWhere own test f) (answered own head a accepted))
           (then-mine (closedWhere own test f) (answered own head a accepted)
           (closings-mine test f (λ i t. ours (kept-of s) i (active-open (rowAt (f .rows) i .state) (l .1 i t))))
           (answered-mine head a accepted (closedWhere own test f .farm) home))
-          (answered-ready {f = closedWhere own test f .farm} head a accepted known (λ _. l .0)
-          (record {
-            kept = closings-kept own test f (kept-of s);
-            young = closings-young own test f (s .young);
-            lined = subst (Lined (closedWhere own test f .farm .rows)) e
-                (closings-lined own test f (λ i t. active-loud (rowAt (f .rows) i .state) (l .1 i t)) (s .lined));
-          }))
+          (run-out-ready head rest e s check l)
 
   settleLine-mine : (line : List ℕ) (f : Farm) → f .line ≡ line → Sound own f → Mine own (settleLine own line f .items)
   unfolding settleLine
@@ -197,3 +186,152 @@ module _ (own : FarmSheet) where
   -- what settling says is on the farm's rows
   pub settle-mine : (f : Farm) → Sound own f → Mine own (settle own f .items)
   settle-mine f s = settleLine-mine (f .line) f refl s
+
+  -- ---- a bytes call
+
+  joined-mine : (seat : ℕ) (q : Request) (f : Farm) → seat < own .rows → Homes own (f .rows) → Mine own (joined own seat q f .items)
+  unfolding joined
+  joined-mine seat q f h k =
+      pick-case (λ (d : Done). Mine own (d .items)) (isEmpty (f .line)) _ _
+      (λ _. started-mine (withLine (withRow f seat (waitingRow q)) (f .line ++ (seat ∷ [])))
+      (λ i. row-set (f .rows) seat i (waitingRow q) (λ r. isOpen r ≡ true → i < own .rows) (λ e _ _. subst (λ j. j < own .rows) (sym e) h) (k i)))
+      (λ _. nothing-mine)
+
+  requested-mine : (seat : ℕ) (q : Request) (f : Farm) → seat < own .rows → Homes own (f .rows) → Mine own (requested own seat q f .items)
+  unfolding requested
+  requested-mine seat q f h k = by (decide own (f .rows) seat q)
+    where
+      by : (d : Decision) → Mine own (decidedBy own seat q d f .items)
+      by (Now code) = answered-mine seat (q .address) code f h
+      by (Ask check) = joined-mine seat q f h k
+
+  diagnosed-mine : (seat : ℕ) (e : Ends) (f : Farm) → seat < own .rows → Mine own (diagnosed own seat e f .items)
+  unfolding diagnosed
+  diagnosed-mine seat e f h =
+      pick-case (λ (d : Done). Mine own (d .items)) (activeAs (e .source) (rowAt (f .rows) seat)) _ _ (λ _. by (own .target (e .target)))
+      (λ _. then-mine _ (closed own seat) (says-mine seat _ h) (closed-mine seat f h))
+    where
+      by : (t : TargetIs) → Mine own (toTarget own seat e t f .items)
+      by stranger = says-mine seat _ h
+      by unreachable = says-mine seat _ h
+      by reachable = append-mine (_ ∷ []) (_ ∷ []) (says-mine seat _ h) (says-mine seat _ h)
+
+  event-mine : (seat : ℕ) (e : Event) (room : List ℕ) (f : Farm) → seat < own .rows → Homes own (f .rows) → Mine own (eventDone own seat e room f .items)
+  unfolding eventDone
+  event-mine seat inputEnded room f h k = nothing-mine
+  event-mine seat (wrong fault) room f h k =
+      pick-case (λ (d : Done). Mine own (d .items)) (closes fault) _ _ (λ _. then-mine _ (closed own seat) (says-mine seat _ h) (closed-mine seat f h))
+      (λ _. says-mine seat _ h)
+  event-mine seat (finished kind size) room f h k =
+      pick-case (λ (d : Done). Mine own (d .items)) (eqb kind 0x0005) _ _ (λ _. requested-mine seat (requestIn (take size room)) f h k)
+      (λ _. pick-case (λ (d : Done). Mine own (d .items)) (eqb kind 0x0008) _ _ (λ _. nothing-mine)
+      (λ _. pick-case (λ (d : Done). Mine own (d .items)) (eqb kind 0x8001) _ _ (λ _. diagnosed-mine seat (endsIn (take size room)) f h) (λ _. nothing-mine)))
+  event-mine seat (skipped size) room f h k = nothing-mine
+
+  bytes-mine : (f : Farm) (seat : ℕ) (t : Taken) → Sound own f → Talks f seat → PossibleIn (t .stream) → Mine own (bytesDone own seat t f .items)
+  unfolding bytesDone
+  bytes-mine f seat t s k p =
+      let g : Sound own (heard seat t f) = heard-sound seat t s k p in
+      let d : Done = eventDone own seat (t .event) (t .stream .room) (heard seat t f) in
+      then-mine d (settle own) (event-mine seat (t .event) (t .stream .room) (heard seat t f) (ours (kept-of s) seat (k .opened)) (ours (kept-of g)))
+      (settle-mine (d .farm) (event-sound seat g (heard-talks seat t s k) (t .event) (t .stream .room)))
+
+  -- ---- the other calls
+
+  left-mine : (seat : ℕ) (f : Farm) → Homes own (f .rows) → Mine own (left own seat f .items)
+  unfolding left
+  left-mine seat f h = by (f .line)
+    where
+      by : (line : List ℕ) → Mine own (leftBy own seat line f .items)
+      by [] = nothing-mine
+      by (head ∷ rest) = pick-case (λ (d : Done). Mine own (d .items)) (eqb seat head) _ _ (λ _. advanced-mine rest f h) (λ _. nothing-mine)
+
+  peer-mine : (seat : ℕ) (f : Farm) → Sound own f → isOpen (rowAt (f .rows) seat) ≡ true → Mine own (peerGone own seat f .items)
+  unfolding peerGone closed
+  peer-mine seat f s e =
+      then-mine (andThen (closed own seat f) (left own seat)) (settle own)
+      (then-mine (closed own seat f) (left own seat) (closed-mine seat f (ours (kept-of s) seat e))
+      (left-mine seat (closed own seat f .farm) (ours (free-kept seat (kept-of s)))))
+      (subst (λ g. Mine own (settle own g .items)) (sym (then-farm (closed own seat f) (left own seat)))
+      (settle-mine (left own seat (closed own seat f .farm) .farm) (left-sound seat (open-in (f .rows) seat e) s)))
+
+  link-mine : (f : Farm) → Sound own f → Mine own (linkGone own f .items)
+  unfolding linkGone
+  link-mine f s = then-mine (closedWhere own (λ seat r. isOpen r) f) _ (closings-mine (λ seat r. isOpen r) f (ours (kept-of s))) nothing-mine
+
+  ticked-mine : (f : Farm) → Sound own f → Mine own (ticked own f .items)
+  unfolding ticked
+  ticked-mine f s =
+      let g : Farm = aged (clockRun (f .line) f) in
+      then-mine (closedWhere own (λ seat r. atLimit r) g) (settle own)
+      (closings-mine (λ seat r. atLimit r) g (λ i t. ours (older-kept (kept-of (clocked (f .line) s))) i (limit-open (rowAt (g .rows) i .state) t)))
+      (settle-mine (closedWhere own (λ seat r. atLimit r) g .farm) (expired-sound s))
+
+-- ---- all calls
+
+abbrev MineBy : FarmSheet → Move → Type 0
+MineBy own m = Gives (λ g. Mine own (g .items)) m
+
+-- a datagram's reply is on no row
+abbrev pub isDatagram : Own → Bool
+isDatagram connect = false
+isDatagram (bytes seat input) = false
+isDatagram (peerClosed seat) = false
+isDatagram linkLost = false
+isDatagram (datagram input) = true
+isDatagram (controller from to user) = false
+
+module _ (own : FarmSheet) (h : Held) (s : Sound own (h .farm)) where
+  connects-mine : MineBy own (connects own h)
+  unfolding connects
+  connects-mine = by (firstAt isFree 0 (take (own .rows) (h .farm .rows)))
+    where
+      by : (d : Found) → MineBy own (connectedAt own h d)
+      by Nothing = tt
+      by (At seat) = nothing-mine own
+
+  bytes-by-mine : (seat : ℕ) (input : List ℕ) (x : RowState) → rowAt (h .farm .rows) seat .state ≡ x → MineBy own (bytesBy own h seat input x)
+  bytes-by-mine seat input x e = by x e
+    where
+      t : Taken
+      t = takenBy seat (getD (h .rooms) seat []) input (h .farm)
+      takes-bytes : Talks (h .farm) seat → MineBy own (tookBytes own h seat t)
+      takes-bytes k = bytes-mine own (h .farm) seat t s k (taken-well seat (getD (h .rooms) seat []) input s)
+      by : (y : RowState) → rowAt (h .farm .rows) seat .state ≡ y → MineBy own (bytesBy own h seat input y)
+      by Free q = tt
+      by (Fresh c) q = takes-bytes (record { opened = ap isOpenState q; loud = ap isWaitingState q })
+      by (Waiting r) q = tt
+      by (Active a c) q = takes-bytes (record { opened = ap isOpenState q; loud = ap isWaitingState q })
+
+  controller-mine : (from to : ℕ) (user : List ℕ) → MineBy own (controllerMove own h from to user)
+  unfolding controllerMove
+  controller-mine from to user =
+      unless-case (MineBy own) (leb 1 (length user)) _ _ (λ _. tt)
+      (λ _. unless-case (MineBy own) (leb (length user) mostUser) _ _ (λ _. tt)
+      (λ _. unless-case (MineBy own) (isTarget (own .target from)) _ _ (λ _. tt)
+      (λ _. first-case (λ d. MineBy own (toTester own h from to user d)) (activeAs to) (h .farm .rows)
+      (λ seat e _. says-mine own seat _ (ours (kept-of s) seat (active-open (rowAt (h .farm .rows) seat .state) (as-active to (rowAt (h .farm .rows) seat .state) e))))
+      (λ _. tt))))
+
+  move-mine : (c : Own) → isDatagram c ≡ false → MineBy own (move own h c)
+  unfolding move
+  move-mine connect e = connects-mine
+  move-mine (bytes seat input) e = bytes-by-mine seat input (rowAt (h .farm .rows) seat .state) refl
+  move-mine (peerClosed seat) e = pick-case (MineBy own) (isOpen (rowAt (h .farm .rows) seat)) _ _ (λ t. peer-mine own seat (h .farm) s t) (λ _. tt)
+  move-mine linkLost e = link-mine own (h .farm) s
+  move-mine (datagram input) e = absurd (true≢false e)
+  move-mine (controller from to user) e = controller-mine from to user
+
+-- EVERY ENTRY OF A CALL IS ON A ROW OF ITS FARM, but the reply to a datagram, which is on none.
+pub items-own : {own : FarmSheet} (h : Held) (c : Own) (g : Given) → FarmOk own → Good own (h .farm) → isDatagram c ≡ false → move own h c ≡ gave g
+    → all (onRow own) (g .items) ≡ true
+items-own {own} h c g ok k n e = subst (MineBy own) e (move-mine own h (sound-of k) c n)
+
+-- So is every entry of a tick.
+pub tick-items-own : {own : FarmSheet} (f : Farm) → FarmOk own → Good own f → all (onRow own) (ticked own f .items) ≡ true
+tick-items-own {own} f ok k = ticked-mine own f (sound-of k)
+
+pub tickMove-items-own : {own : FarmSheet} (h : Held) (g : Given) → FarmOk own → Good own (h .farm) → tickMove own h ≡ gave g
+    → all (onRow own) (g .items) ≡ true
+unfolding tickMove
+tickMove-items-own {own} h g ok k e = subst (MineBy own) e (tick-items-own (h .farm) ok k)

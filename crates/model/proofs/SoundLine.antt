@@ -212,33 +212,42 @@ head-licence {own} {f} head s =
 
 -- ---- settling
 
+-- the head waits for a tester's address, and once it has its answer the rest is the line
+module _ {own : FarmSheet} {f : Farm} (head : ℕ) (rest : List ℕ) (e : f .line ≡ head ∷ rest) (s : Sound own f) where
+  pub served-waits : isWaiting (rowAt (f .rows) head) ≡ true
+  served-waits = head-waits (f .rows) head rest (subst (Lined (f .rows)) e (s .lined))
+
+  known : own .tester (wanted (rowAt (f .rows) head)) ≡ true
+  known = wanted-tester own (rowAt (f .rows) head) (rowAt (f .rows) head .state) served-waits (s .rowsKeep head)
+
+  pub answer-ready : (code : ℕ) → Licence own f (wanted (rowAt (f .rows) head)) (Answer code)
+      → Ready own rest (answered own head (wanted (rowAt (f .rows) head)) code f .farm)
+  answer-ready code l = answered-ready head (wanted (rowAt (f .rows) head)) code known l (subst (λ line. Ready own line f) e (ready-of s))
+
+  pub run-out-ready : (check : Check) → Licence own f (wanted (rowAt (f .rows) head)) (RunOut check)
+      → Ready own rest (answered own head (wanted (rowAt (f .rows) head)) accepted (closedWhere own (isSilent check (f .marks)) f .farm) .farm)
+  run-out-ready check l =
+      let test : ℕ → Row → Bool = isSilent check (f .marks) in
+      answered-ready {f = closedWhere own test f .farm} head (wanted (rowAt (f .rows) head)) accepted known (λ _. l .0)
+      (record {
+        kept = closings-kept own test f (kept-of s);
+        young = closings-young own test f (s .young);
+        lined = subst (Lined (closedWhere own test f .farm .rows)) e
+            (closings-lined own test f (λ i t. active-loud (rowAt (f .rows) i .state) (l .1 i t)) (s .lined));
+      })
+
 pub serve-sound : {own : FarmSheet} {f : Farm} (head : ℕ) (rest : List ℕ) (v : HeadVerdict) (next : Farm → Done) → f .line ≡ head ∷ rest → Sound own f
     → Licence own f (wanted (rowAt (f .rows) head)) v → ((g : Farm) → g .line ≡ rest → Sound own g → Sound own (next g .farm))
     → Sound own (serve own head rest f v next .farm)
 unfolding andThen
 serve-sound {own} {f} head rest v next e s l ih = by v l
   where
-    a : ℕ
-    a = wanted (rowAt (f .rows) head)
-    ready : Ready own (head ∷ rest) f
-    ready = subst (λ line. Ready own line f) e (ready-of s)
-    known : own .tester a ≡ true
-    known = wanted-tester own (rowAt (f .rows) head) (rowAt (f .rows) head .state) (head-waits (f .rows) head rest (ready .lined)) (s .rowsKeep head)
     goes-on : (g : Farm) → Ready own rest g → Sound own (next (advanced own rest g .farm) .farm)
     goes-on g r = ih (advanced own rest g .farm) (advanced-line own rest g) (advanced-sound r)
-    by : (w : HeadVerdict) → Licence own f a w → Sound own (serve own head rest f w next .farm)
+    by : (w : HeadVerdict) → Licence own f (wanted (rowAt (f .rows) head)) w → Sound own (serve own head rest f w next .farm)
     by Pending l = s
-    by (Answer code) l = goes-on _ (answered-ready head a code known l ready)
-    by (RunOut check) l =
-        let test : ℕ → Row → Bool = isSilent check (f .marks) in
-        goes-on _
-        (answered-ready {f = closedWhere own test f .farm} head a accepted known (λ _. l .0)
-        (record {
-          kept = closings-kept own test f (kept-of s);
-          young = closings-young own test f (s .young);
-          lined = subst (Lined (closedWhere own test f .farm .rows)) e
-              (closings-lined own test f (λ i t. active-loud (rowAt (f .rows) i .state) (l .1 i t)) (s .lined));
-        }))
+    by (Answer code) l = goes-on _ (answer-ready head rest e s code l)
+    by (RunOut check) l = goes-on _ (run-out-ready head rest e s check l)
 
 pub settleLine-sound : {own : FarmSheet} (line : List ℕ) (f : Farm) → f .line ≡ line → Sound own f → Sound own (settleLine own line f .farm)
 unfolding settleLine

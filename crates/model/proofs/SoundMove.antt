@@ -31,8 +31,7 @@ use Rattle.model.proofs.Split.{Sound, FarmOk, sound-of}
 use Rattle.model.proofs.SoundRows.{Kept, Lined, Young, kept-of, sound-from, one-small, shut-loud, limit-loud, fresh-young, Fits, put-kept, free-kept, free-young, put-young, put-lined}
 use Rattle.model.proofs.SoundClose.{closings-line, closings-marks, closings-kept, closings-young, closings-lined, closings-none}
 use Rattle.model.proofs.SoundLine.{first-case, Ready, no-marks, advanced-sound, settle-sound}
-use Rattle.model.proofs.SoundStream.{takes-well}
-use Rattle.model.proofs.SoundBytes.{Talks, bytes-sound}
+use Rattle.model.proofs.SoundBytes.{Talks, taken-well, bytes-sound}
 
 -- what holds of all that an accepted call gives
 abbrev pub Gives : (Given → Type 0) → Move → Type 0
@@ -244,8 +243,7 @@ bytes-by-sound {own} h seat input x e ok s = by x e
     t = takenBy seat (getD (h .rooms) seat []) input (h .farm)
     takes-bytes : Talks (h .farm) seat → KeepsSound own (tookBytes own h seat t)
     takes-bytes k =
-        bytes-sound seat t ok s k
-        (takes-well (streamOf (rowAt (h .farm .rows) seat .place) (rowAt (h .farm .rows) seat .head) (getD (h .rooms) seat [])) input (s .possible seat))
+        bytes-sound seat t ok s k (taken-well seat (getD (h .rooms) seat []) input s)
     by : (y : RowState) → rowAt (h .farm .rows) seat .state ≡ y → KeepsSound own (bytesBy own h seat input y)
     by Free q = tt
     by (Fresh c) q = takes-bytes (record { opened = ap isOpenState q; loud = ap isWaitingState q })
