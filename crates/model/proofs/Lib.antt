@@ -9,4 +9,5 @@ pub mod SoundStream
 pub mod SoundBytes
 pub mod SoundMove
 pub mod SoundItems
+pub mod SoundMain
 pub mod Try

@@ -1,40 +1,37 @@
 -- A bytes call keeps the half `Sound` of rule 4.
 -- Assumes nothing.
-use Prim.Native.Nat.{ℕ, zero, suc, _+_, _≤_, _<_}
-use mathlib.Core.Path.{_≡_, refl, sym, ap, subst, _∙_}
-use mathlib.Core.Bool.{Bool, true, false, false≢true, true≢false}
+use Prim.Native.Nat.{ℕ, _≤_, _<_}
+use mathlib.Core.Path.{_≡_, refl, sym, ap, _∙_}
+use mathlib.Core.Bool.{true, false, true≢false}
 use mathlib.Core.List.{List, [], _∷_, _++_}
 use native.Mathlib.Omega.{arith}
-use lib.Dec.{eqb, leb, ltb}
-use lib.ListN.{getD, set, take, length, length-set}
+use lib.Dec.{eqb, leb}
+use lib.ListN.{set, take, length, length-set}
 use borrow.Author.Tests.{leb-true, eqb-true, eq-eqb, ne-eqb}
-use Rattle.octets.specs.Choice.{pick, both, unless, one}
+use Rattle.octets.specs.Choice.{both, one}
 use Rattle.octets.specs.Search.{countIf}
 use Rattle.kinds.specs.declared.Clock.{Clock}
-use Rattle.kinds.specs.declared.Fault.{Fault}
 use Rattle.kinds.specs.declared.Request.{Request}
 use Rattle.kinds.specs.declared.RowState.{RowState}
 use Rattle.kinds.specs.declared.RowState.the-variants.{Free, Fresh, Waiting, Active}
 use Rattle.kinds.specs.declared.Row.{Row}
-use Rattle.kinds.specs.declared.Check.the-variants.{One, All}
 use Rattle.kinds.specs.declared.Decision.{Decision}
-use Rattle.kinds.specs.declared.Decision.the-variants.{Now, Ask}
 use Rattle.wire.specs.declared.payload.Ends.{Ends}
 use Rattle.wire.specs.Header.{closes}
 use Rattle.wire.specs.Payload.{requestIn, addressIn, endsIn}
 use Rattle.model.specs.FarmSheet.{FarmSheet, TargetIs, stranger, unreachable, reachable}
-use Rattle.model.specs.Row.{generalLimit, clockOf, freeRow, waitingRow, activeRow, rowAt, isOpenState, isOpen, isWaitingState, isWaiting, isActiveState, isActive, activeAsState, activeAs, atLimitState, atLimit, heardState}
+use Rattle.model.specs.Row.{generalLimit, clockOf, waitingRow, activeRow, rowAt, isOpenState, isOpen, isWaitingState, isWaiting, isActiveState, isActive, activeAsState, activeAs, atLimitState, heardState}
 use Rattle.model.specs.Stream.{Event, inputEnded, wrong, finished, skipped, Taken, streamOf}
-use Rattle.model.specs.Farm.{Farm, Done, quietly, andThen, closed}
-use Rattle.model.specs.Line.{accepted, byState, socketRules, decide, answered, isEmpty, joined, isAsked, marked, settle}
-use Rattle.model.specs.Bytes.{decidedBy, requested, toTarget, diagnosed, messaged, faulted, eventDone, heardRow, heard, takenBy, bytesDone}
-use Rattle.model.specs.Rule.{times, RowKeeps, PossibleAt}
-use Rattle.model.proofs.Cases.{pick-case, unless-case, split}
+use Rattle.model.specs.Farm.{Farm, Done, andThen}
+use Rattle.model.specs.Line.{accepted, byState, socketRules, decide, answered, isEmpty, joined, isAsked, marked}
+use Rattle.model.specs.Bytes.{decidedBy, requested, toTarget, diagnosed, eventDone, heardRow, heard, takenBy, bytesDone}
+use Rattle.model.specs.Rule.{RowKeeps}
+use Rattle.model.proofs.Cases.{pick-case, unless-case}
 use Rattle.model.proofs.Rows.{row-same, open-in, times-append}
-use Rattle.model.proofs.Split.{Sound, FarmOk}
+use Rattle.model.proofs.Split.{Sound}
 use Rattle.model.proofs.SoundRows.{Kept, Lined, Young, kept-of, sound-from, active-young, Fits, put-kept, put-young, put-lined}
 use Rattle.model.proofs.SoundClose.{closed-sound}
-use Rattle.model.proofs.SoundLine.{socket-case, started-sound, Room, room-fits, settle-sound}
+use Rattle.model.proofs.SoundLine.{socket-case, started-sound, room-fits, settled-sound}
 use Rattle.model.proofs.SoundStream.{PossibleIn, takes-well}
 
 -- the codes that a request can get at once, but the one that accepts
@@ -252,8 +249,8 @@ module _ {own : FarmSheet} {f : Farm} (seat : ℕ) (s : Sound own f) (k : Talks 
 pub taken-well : {own : FarmSheet} {f : Farm} (seat : ℕ) (room input : List ℕ) → Sound own f → PossibleIn (takenBy seat room input f .stream)
 taken-well {own} {f} seat room input s = takes-well (streamOf (rowAt (f .rows) seat .place) (rowAt (f .rows) seat .head) room) input (s .possible seat)
 
--- A BYTES CALL KEEPS THE RULES: of a row that is open and not waiting, whatever it takes
-pub bytes-sound : {own : FarmSheet} {f : Farm} (seat : ℕ) (t : Taken) → FarmOk own → Sound own f → Talks f seat → PossibleIn (t .stream)
+-- a bytes call keeps it, of a row that is open and not waiting, whatever it takes
+pub bytes-sound : {own : FarmSheet} {f : Farm} (seat : ℕ) (t : Taken) → Sound own f → Talks f seat → PossibleIn (t .stream)
     → Sound own (bytesDone own seat t f .farm)
 unfolding bytesDone andThen
-bytes-sound seat t ok s k p = settle-sound ok (event-sound seat (heard-sound seat t s k p) (heard-talks seat t s k) (t .event) (t .stream .room))
+bytes-sound seat t s k p = settled-sound (event-sound seat (heard-sound seat t s k p) (heard-talks seat t s k) (t .event) (t .stream .room))

@@ -2,24 +2,23 @@
 -- Assumes nothing.
 use Prim.Native.Nat.{ℕ, zero, suc, _+_, _≤_, _<_}
 use mathlib.Core.Path.{_≡_, refl, sym, ap, subst, _∙_}
-use mathlib.Core.Bool.{Bool, true, false, false≢true, true≢false}
-use mathlib.Core.List.{List, [], _∷_, _++_}
+use mathlib.Core.Bool.{Bool, true, false, true≢false}
+use mathlib.Core.List.{List}
 use native.Mathlib.Nat.{not-suc-le-zero}
 use native.Mathlib.Omega.{arith}
-use lib.Dec.{eqb, leb, ltb}
-use lib.ListN.{getD, set, length, length-set, List·getD-eq-default}
-use borrow.Author.Tests.{ltb-true, ltb-false, eqb-true, eqb-false, eq-eqb, ne-eqb}
-use Rattle.octets.specs.Choice.{pick, one}
+use lib.Dec.{eqb, ltb}
+use lib.ListN.{set, length, length-set, List·getD-eq-default}
+use borrow.Author.Tests.{ltb-true, ltb-false, eqb-true, eqb-false}
+use Rattle.octets.specs.Choice.{one}
 use Rattle.octets.specs.Search.{countIf}
 use Rattle.octets.specs.Fold.{upTo}
 use Rattle.kinds.specs.declared.Row.{Row}
 use Rattle.model.specs.FarmSheet.{FarmSheet}
-use Rattle.model.specs.Row.{freeRow, rowAt, isOpen, isWaiting, isActive, activeAs, atLimit}
-use Rattle.model.specs.Farm.{Farm, seatCount, Done, quietly, andThen, eachSeat, closed, closedIf, closedWhere}
-use Rattle.model.specs.Rule.{times}
+use Rattle.model.specs.Row.{freeRow, rowAt, isWaiting}
+use Rattle.model.specs.Farm.{Farm, seatCount, Done, andThen, closed, closedIf, closedWhere}
 use Rattle.model.proofs.Cases.{pick-case, split}
-use Rattle.model.proofs.Rows.{row-put, row-set, row-same, row-other, open-in, count-free}
-use Rattle.model.proofs.Seats.{seatsTo, seats-all, seats-suc, closings-keep}
+use Rattle.model.proofs.Rows.{row-put, row-set, row-other, count-free}
+use Rattle.model.proofs.Seats.{seatsTo, seats-all, closings-keep}
 use Rattle.model.proofs.Split.{Sound}
 use Rattle.model.proofs.SoundRows.{Kept, Lined, Young, kept-of, sound-from, free-kept, free-young, free-lined}
 

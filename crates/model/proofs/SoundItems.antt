@@ -1,19 +1,17 @@
 -- Every entry that a farm makes is on one of its own rows.
 -- Assumes nothing.
-use Prim.Native.Nat.{ℕ, zero, suc, _+_, _≤_, _<_}
-use mathlib.Core.Path.{_≡_, refl, sym, ap, subst, _∙_}
+use Prim.Native.Nat.{ℕ, zero, suc, _+_, _<_}
+use mathlib.Core.Path.{_≡_, refl, sym, ap, subst}
 use mathlib.Core.Bool.{Bool, true, false, false≢true, true≢false}
-use mathlib.Core.List.{List, [], _∷_, _++_, map}
+use mathlib.Core.List.{List, [], _∷_, _++_}
 use native.Mathlib.Omega.{arith}
-use lib.Dec.{eqb, leb, ltb}
-use lib.ListN.{getD, set, take, length}
+use lib.Dec.{eqb, leb}
+use lib.ListN.{getD, take, length}
 use borrow.Author.Tests.{le-leb, lt-ltb, eqb-true}
 use Rattle.octets.specs.declared.Found.{Found}
 use Rattle.octets.specs.declared.Found.the-variants.{At, Nothing}
-use Rattle.octets.specs.Choice.{pick, both, unless}
-use Rattle.octets.specs.Search.{firstAt, countIf, all}
+use Rattle.octets.specs.Search.{firstAt, all}
 use Rattle.octets.specs.Fold.{upTo}
-use Rattle.kinds.specs.declared.Fault.{Fault}
 use Rattle.kinds.specs.declared.Item.{Item}
 use Rattle.kinds.specs.declared.Reply.{Reply}
 use Rattle.kinds.specs.declared.Request.{Request}
@@ -28,22 +26,20 @@ use Rattle.kinds.specs.declared.HeadVerdict.{HeadVerdict}
 use Rattle.kinds.specs.declared.HeadVerdict.the-variants.{Pending, Answer, RunOut}
 use Rattle.wire.specs.declared.payload.Ends.{Ends}
 use Rattle.wire.specs.Header.{closes}
-use Rattle.wire.specs.Payload.{requestIn, addressIn, endsIn}
+use Rattle.wire.specs.Payload.{requestIn, endsIn}
 use Rattle.model.specs.FarmSheet.{FarmSheet, TargetIs, stranger, unreachable, reachable}
-use Rattle.model.specs.Row.{freeRow, waitingRow, rowAt, isFree, isOpenState, isOpen, isWaitingState, isWaiting, isActive, activeAs, wanted, older, atLimit}
-use Rattle.model.specs.Stream.{Event, inputEnded, wrong, finished, skipped, Taken, streamOf}
-use Rattle.model.specs.Farm.{Farm, seatCount, withRow, withLine, Done, does, quietly, andThen, eachSeat, says, closed, closedIf, closedWhere}
-use Rattle.model.specs.Line.{accepted, socketRules, decide, asks, isSilent, askedIf, asking, cleared, startedBy, started, advanced, answered, headVerdict, serve, settleLine, settle, isEmpty, joined, without, leftBy, left}
-use Rattle.model.specs.Bytes.{decidedBy, requested, toTarget, diagnosed, messaged, faulted, eventDone, heard, takenBy, bytesDone}
-use Rattle.model.specs.Move.{Own, connect, bytes, peerClosed, linkLost, datagram, controller, Held, Given, Move, refused, gave, connectedAt, connects, tookBytes, bytesBy, peerGone, linkGone, clockRun, aged, ticked, mostUser, isTarget, toTester, controllerMove, move, tickMove}
-use Rattle.model.specs.Rule.{Good}
+use Rattle.model.specs.Row.{freeRow, waitingRow, rowAt, isFree, isOpenState, isOpen, isWaitingState, activeAs, wanted, atLimit}
+use Rattle.model.specs.Stream.{Event, inputEnded, wrong, finished, skipped, Taken}
+use Rattle.model.specs.Farm.{Farm, seatCount, withRow, withLine, Done, quietly, andThen, eachSeat, says, closed, closedIf, closedWhere}
+use Rattle.model.specs.Line.{accepted, decide, asks, isSilent, askedIf, asking, cleared, startedBy, started, advanced, answered, headVerdict, serve, settleLine, settle, isEmpty, joined, leftBy, left}
+use Rattle.model.specs.Bytes.{decidedBy, requested, toTarget, diagnosed, eventDone, heard, takenBy, bytesDone}
+use Rattle.model.specs.Move.{Own, connect, bytes, peerClosed, linkLost, datagram, controller, Held, Move, connectedAt, connects, tookBytes, bytesBy, peerGone, linkGone, clockRun, aged, ticked, mostUser, isTarget, toTester, controllerMove, move}
 use Rattle.model.specs.History.{onRow}
 use Rattle.model.proofs.Cases.{pick-case, unless-case, split}
 use Rattle.model.proofs.Rows.{row-set, open-in}
 use Rattle.model.proofs.Seats.{then-farm}
-use Rattle.model.proofs.Split.{Sound, FarmOk, sound-of}
-use Rattle.model.proofs.SoundRows.{Kept, Lined, kept-of, waiting-open, active-open, as-active, limit-open, wanted-tester, active-loud, ours, free-kept, head-waits}
-use Rattle.model.proofs.SoundClose.{closings-kept, closings-young, closings-lined}
+use Rattle.model.proofs.Split.{Sound}
+use Rattle.model.proofs.SoundRows.{kept-of, waiting-open, active-open, as-active, limit-open, ours, free-kept}
 use Rattle.model.proofs.SoundLine.{first-case, socket-case, Ready, advanced-line, advanced-sound, Licence, head-licence, served-waits, answer-ready, run-out-ready}
 use Rattle.model.proofs.SoundStream.{PossibleIn}
 use Rattle.model.proofs.SoundBytes.{Talks, heard-sound, heard-talks, event-sound, taken-well}
@@ -259,7 +255,7 @@ module _ (own : FarmSheet) where
   unfolding linkGone
   link-mine f s = then-mine (closedWhere own (λ seat r. isOpen r) f) _ (closings-mine (λ seat r. isOpen r) f (ours (kept-of s))) nothing-mine
 
-  ticked-mine : (f : Farm) → Sound own f → Mine own (ticked own f .items)
+  pub ticked-mine : (f : Farm) → Sound own f → Mine own (ticked own f .items)
   unfolding ticked
   ticked-mine f s =
       let g : Farm = aged (clockRun (f .line) f) in
@@ -269,7 +265,7 @@ module _ (own : FarmSheet) where
 
 -- ---- all calls
 
-abbrev MineBy : FarmSheet → Move → Type 0
+abbrev pub MineBy : FarmSheet → Move → Type 0
 MineBy own m = Gives (λ g. Mine own (g .items)) m
 
 -- a datagram's reply is on no row
@@ -313,7 +309,7 @@ module _ (own : FarmSheet) (h : Held) (s : Sound own (h .farm)) where
       (λ seat e _. says-mine own seat _ (ours (kept-of s) seat (active-open (rowAt (h .farm .rows) seat .state) (as-active to (rowAt (h .farm .rows) seat .state) e))))
       (λ _. tt))))
 
-  move-mine : (c : Own) → isDatagram c ≡ false → MineBy own (move own h c)
+  pub move-mine : (c : Own) → isDatagram c ≡ false → MineBy own (move own h c)
   unfolding move
   move-mine connect e = connects-mine
   move-mine (bytes seat input) e = bytes-by-mine seat input (rowAt (h .farm .rows) seat .state) refl
@@ -321,17 +317,3 @@ module _ (own : FarmSheet) (h : Held) (s : Sound own (h .farm)) where
   move-mine linkLost e = link-mine own (h .farm) s
   move-mine (datagram input) e = absurd (true≢false e)
   move-mine (controller from to user) e = controller-mine from to user
-
--- EVERY ENTRY OF A CALL IS ON A ROW OF ITS FARM, but the reply to a datagram, which is on none.
-pub items-own : {own : FarmSheet} (h : Held) (c : Own) (g : Given) → FarmOk own → Good own (h .farm) → isDatagram c ≡ false → move own h c ≡ gave g
-    → all (onRow own) (g .items) ≡ true
-items-own {own} h c g ok k n e = subst (MineBy own) e (move-mine own h (sound-of k) c n)
-
--- So is every entry of a tick.
-pub tick-items-own : {own : FarmSheet} (f : Farm) → FarmOk own → Good own f → all (onRow own) (ticked own f .items) ≡ true
-tick-items-own {own} f ok k = ticked-mine own f (sound-of k)
-
-pub tickMove-items-own : {own : FarmSheet} (h : Held) (g : Given) → FarmOk own → Good own (h .farm) → tickMove own h ≡ gave g
-    → all (onRow own) (g .items) ≡ true
-unfolding tickMove
-tickMove-items-own {own} h g ok k e = subst (MineBy own) e (tick-items-own (h .farm) ok k)

@@ -3,12 +3,11 @@
 use Prim.Native.Nat.{ℕ, zero, suc, _+_, _≤_, _<_}
 use mathlib.Core.Path.{_≡_, refl, sym, ap, subst, _∙_}
 use mathlib.Core.Bool.{Bool, true, false, false≢true, true≢false}
-use mathlib.Core.List.{List, [], _∷_, _++_}
-use native.Mathlib.Nat.{not-suc-le-zero}
+use mathlib.Core.List.{List, [], _∷_}
 use native.Mathlib.Omega.{arith}
-use lib.Dec.{eqb, leb, ltb}
-use lib.ListN.{getD, set, length, length-set, replicate, length-replicate, List·getD-eq-default}
-use borrow.Author.Tests.{leb-true, leb-false, ltb-true, ltb-false, eqb-true, eqb-false, eq-eqb, ne-eqb}
+use lib.Dec.{eqb, leb}
+use lib.ListN.{length, length-replicate}
+use borrow.Author.Tests.{leb-true, leb-false, eqb-true}
 use Rattle.octets.specs.declared.Found.{Found}
 use Rattle.octets.specs.declared.Found.the-variants.{At, Nothing}
 use Rattle.octets.specs.Choice.{pick, one}
@@ -23,15 +22,14 @@ use Rattle.kinds.specs.declared.HeadVerdict.{HeadVerdict}
 use Rattle.kinds.specs.declared.HeadVerdict.the-variants.{Pending, Answer, RunOut}
 use Rattle.model.specs.FarmSheet.{FarmSheet}
 use Rattle.model.specs.Row.{checkLimit, freeRow, activeRow, rowAt, isOpen, isWaiting, isActive, activeAs, wanted}
-use Rattle.model.specs.Farm.{Farm, seatCount, noMarks, withRow, withLine, Done, does, quietly, andThen, eachSeat, closed, closedWhere}
-use Rattle.model.specs.Line.{accepted, byPlaces, byHolder, socketRules, asks, isMarked, isSilent, allAnswered, refusalOf, askedIf, asking, cleared, startedBy, started, advanced, answered, verdictBy, headVerdict, serve, settleLine, settle}
-use Rattle.model.specs.Rule.{times}
+use Rattle.model.specs.Farm.{Farm, seatCount, noMarks, withLine, Done, andThen, closed, closedWhere}
+use Rattle.model.specs.Line.{accepted, byHolder, socketRules, asks, isMarked, isSilent, allAnswered, refusalOf, askedIf, asking, cleared, startedBy, started, advanced, answered, verdictBy, headVerdict, serve, settleLine, settle}
 use Rattle.model.proofs.Cases.{pick-case, split}
-use Rattle.model.proofs.Rows.{open-in, count-free}
+use Rattle.model.proofs.Rows.{open-in}
 use Rattle.model.proofs.Seats.{each-keeps}
-use Rattle.model.proofs.Split.{Sound, FarmOk}
-use Rattle.model.proofs.SoundRows.{Kept, Lined, Young, kept-of, sound-from, waiting-open, active-open, as-active, active-loud, waiting-not, idle-not-as, wanted-tester, active-young, ours, Fits, put-kept, free-kept, free-young, put-young, head-waits, head-gone}
-use Rattle.model.proofs.SoundClose.{closed-sound, closings-line, closings-marks, closings-kept, closings-young, closings-count, closings-fewer, closings-lined, closings-sound, closings-not}
+use Rattle.model.proofs.Split.{Sound}
+use Rattle.model.proofs.SoundRows.{Kept, Lined, Young, kept-of, sound-from, waiting-open, as-active, active-loud, waiting-not, wanted-tester, active-young, Fits, put-kept, free-kept, free-young, put-young, head-waits, head-gone}
+use Rattle.model.proofs.SoundClose.{closings-kept, closings-young, closings-count, closings-fewer, closings-lined}
 
 -- ---- the row that is found
 
@@ -255,6 +253,6 @@ settleLine-sound [] f e s = s
 settleLine-sound {own} (head ∷ rest) f e s =
     serve-sound head rest (headVerdict own f head) (settleLine own rest) e s (head-licence head s) (λ g q t. settleLine-sound rest g q t)
 
--- SETTLING KEEPS THE RULES on rows and line, whatever they are.
-pub settle-sound : {own : FarmSheet} {f : Farm} → FarmOk own → Sound own f → Sound own (settle own f .farm)
-settle-sound {own} {f} ok s = settleLine-sound (f .line) f refl s
+-- settling keeps it, whatever the line is
+pub settled-sound : {own : FarmSheet} {f : Farm} → Sound own f → Sound own (settle own f .farm)
+settled-sound {own} {f} s = settleLine-sound (f .line) f refl s

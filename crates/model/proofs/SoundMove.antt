@@ -1,36 +1,35 @@
 -- Every call and every tick keeps the half `Sound` of rule 4; a new farm has it.
 -- Assumes nothing.
-use Prim.Native.Nat.{ℕ, zero, suc, _+_, _≤_, _<_, min}
+use Prim.Native.Nat.{ℕ, zero, suc, _<_, min}
 use mathlib.Core.Path.{_≡_, refl, sym, ap, subst, _∙_}
-use mathlib.Core.Bool.{Bool, true, false, false≢true, true≢false}
-use mathlib.Core.List.{List, [], _∷_, _++_, map}
-use native.Mathlib.Nat.{not-suc-le-zero}
+use mathlib.Core.Bool.{Bool, true, false, false≢true}
+use mathlib.Core.List.{List, [], _∷_, map}
 use native.Mathlib.Omega.{arith}
-use lib.Dec.{eqb, leb, ltb}
-use lib.ListN.{getD, set, take, length, length-take, length-map, length-set, length-replicate, replicate, getD-replicate, List·getD-eq-default}
-use borrow.Author.Tests.{leb-true, ltb-true, ltb-false, eqb-true, eqb-false, eq-eqb, ne-eqb}
+use lib.Dec.{eqb, leb}
+use lib.ListN.{getD, set, take, length, length-take, length-map, length-replicate, replicate}
+use borrow.Author.Tests.{eqb-true, ne-eqb}
 use lib.Seq.{getD-take}
 use Rattle.octets.specs.declared.Found.{Found}
 use Rattle.octets.specs.declared.Found.the-variants.{At, Nothing}
-use Rattle.octets.specs.Choice.{pick, unless, one}
+use Rattle.octets.specs.Choice.{one}
 use Rattle.octets.specs.Search.{firstAt, countIf}
 use Rattle.kinds.specs.declared.RowState.{RowState}
 use Rattle.kinds.specs.declared.RowState.the-variants.{Free, Fresh, Waiting, Active}
 use Rattle.kinds.specs.declared.Row.{Row}
 use Rattle.model.specs.FarmSheet.{FarmSheet}
 use Rattle.model.specs.Row.{freeRow, freshRow, rowAt, isFreeState, isFree, isOpenState, isOpen, isWaitingState, isWaiting, isActiveState, isActive, activeAsState, activeAs, olderState, older, atLimit}
-use Rattle.model.specs.Stream.{Taken, streamOf}
-use Rattle.model.specs.Farm.{Farm, seatCount, noMarks, newFarm, withRow, withLine, Done, quietly, andThen, closed, closedWhere}
-use Rattle.model.specs.Line.{cleared, without, leftBy, left, advanced, settle}
-use Rattle.model.specs.Bytes.{takenBy, bytesDone}
-use Rattle.model.specs.Move.{Own, connect, bytes, peerClosed, linkLost, datagram, controller, Held, Given, Move, refused, gave, connectedAt, connects, tookBytes, bytesBy, peerGone, linkGone, clockRun, aged, ticked, datagramMove, mostUser, isTarget, toTester, controllerMove, move, tickMove}
-use Rattle.model.specs.Rule.{times, RowKeeps, PossibleAt, Good}
-use Rattle.model.proofs.Cases.{pick-case, unless-case, split}
-use Rattle.model.proofs.Rows.{row-set, row-map, open-in, count-map, times-gone, times-kept}
-use Rattle.model.proofs.Split.{Sound, FarmOk, sound-of}
-use Rattle.model.proofs.SoundRows.{Kept, Lined, Young, kept-of, sound-from, one-small, shut-loud, limit-loud, fresh-young, Fits, put-kept, free-kept, free-young, put-young, put-lined}
+use Rattle.model.specs.Stream.{Taken}
+use Rattle.model.specs.Farm.{Farm, seatCount, newFarm, withRow, Done, andThen, closed, closedWhere}
+use Rattle.model.specs.Line.{without, leftBy, left}
+use Rattle.model.specs.Bytes.{takenBy}
+use Rattle.model.specs.Move.{Own, connect, bytes, peerClosed, linkLost, datagram, controller, Held, Given, Move, refused, gave, connectedAt, connects, tookBytes, bytesBy, peerGone, linkGone, clockRun, aged, ticked, datagramMove, mostUser, isTarget, toTester, controllerMove, move}
+use Rattle.model.specs.Rule.{times, RowKeeps, PossibleAt}
+use Rattle.model.proofs.Cases.{pick-case, unless-case}
+use Rattle.model.proofs.Rows.{row-map, open-in, count-map, times-gone, times-kept}
+use Rattle.model.proofs.Split.{Sound}
+use Rattle.model.proofs.SoundRows.{Kept, Lined, Young, kept-of, sound-from, one-small, shut-loud, limit-loud, fresh-young, put-kept, free-kept, free-young, put-young, put-lined}
 use Rattle.model.proofs.SoundClose.{closings-line, closings-marks, closings-kept, closings-young, closings-lined, closings-none}
-use Rattle.model.proofs.SoundLine.{first-case, Ready, no-marks, advanced-sound, settle-sound}
+use Rattle.model.proofs.SoundLine.{first-case, no-marks, advanced-sound, settled-sound}
 use Rattle.model.proofs.SoundBytes.{Talks, taken-well, bytes-sound}
 
 -- what holds of all that an accepted call gives
@@ -38,14 +37,14 @@ abbrev pub Gives : (Given → Type 0) → Move → Type 0
 Gives P (refused n) = Unit {0}
 Gives P (gave g) = P g
 
-abbrev KeepsSound : FarmSheet → Move → Type 0
+abbrev pub KeepsSound : FarmSheet → Move → Type 0
 KeepsSound own m = Gives (λ g. Sound own (g .held .farm)) m
 
 -- ---- a new farm
 
-pub new-sound : {own : FarmSheet} → Sound own newFarm
+pub newly-sound : {own : FarmSheet} → Sound own newFarm
 unfolding newFarm countIf
-new-sound {own} =
+newly-sound {own} =
     sound-from
     (record {
       seats = length-replicate seatCount freeRow;
@@ -142,9 +141,9 @@ left-sound {own} {f} seat inside s = by (f .line) refl
         was : Lined (f .rows) (head ∷ rest)
         was = subst (Lined (f .rows)) e (s .lined)
 
-peer-sound : {own : FarmSheet} {f : Farm} (seat : ℕ) → FarmOk own → Sound own f → isOpen (rowAt (f .rows) seat) ≡ true → Sound own (peerGone own seat f .farm)
+peer-sound : {own : FarmSheet} {f : Farm} (seat : ℕ) → Sound own f → isOpen (rowAt (f .rows) seat) ≡ true → Sound own (peerGone own seat f .farm)
 unfolding peerGone andThen
-peer-sound {own} {f} seat ok s e = settle-sound ok (left-sound seat (open-in (f .rows) seat e) s)
+peer-sound {own} {f} seat s e = settled-sound (left-sound seat (open-in (f .rows) seat e) s)
 
 -- ---- link lost
 
@@ -156,45 +155,44 @@ link-sound {own} {f} s =
 
 -- ---- tick
 
-module _ (own : FarmSheet) where
-  older-open : (s : RowState) → isOpenState (olderState s) ≡ isOpenState s
-  older-open Free = refl
-  older-open (Fresh c) = refl
-  older-open (Waiting q) = refl
-  older-open (Active a c) = refl
+older-open : (s : RowState) → isOpenState (olderState s) ≡ isOpenState s
+older-open Free = refl
+older-open (Fresh c) = refl
+older-open (Waiting q) = refl
+older-open (Active a c) = refl
 
-  pub older-waiting : (s : RowState) → isWaitingState (olderState s) ≡ isWaitingState s
-  older-waiting Free = refl
-  older-waiting (Fresh c) = refl
-  older-waiting (Waiting q) = refl
-  older-waiting (Active a c) = refl
+pub older-waiting : (s : RowState) → isWaitingState (olderState s) ≡ isWaitingState s
+older-waiting Free = refl
+older-waiting (Fresh c) = refl
+older-waiting (Waiting q) = refl
+older-waiting (Active a c) = refl
 
-  pub older-active : (s : RowState) → isActiveState (olderState s) ≡ isActiveState s
-  older-active Free = refl
-  older-active (Fresh c) = refl
-  older-active (Waiting q) = refl
-  older-active (Active a c) = refl
+pub older-active : (s : RowState) → isActiveState (olderState s) ≡ isActiveState s
+older-active Free = refl
+older-active (Fresh c) = refl
+older-active (Waiting q) = refl
+older-active (Active a c) = refl
 
-  pub older-as : (b : ℕ) (s : RowState) → activeAsState b (olderState s) ≡ activeAsState b s
-  older-as b Free = refl
-  older-as b (Fresh c) = refl
-  older-as b (Waiting q) = refl
-  older-as b (Active a c) = refl
+pub older-as : (b : ℕ) (s : RowState) → activeAsState b (olderState s) ≡ activeAsState b s
+older-as b Free = refl
+older-as b (Fresh c) = refl
+older-as b (Waiting q) = refl
+older-as b (Active a c) = refl
 
-  older-keeps : (r : Row) (s : RowState) → RowKeeps own r s → RowKeeps own (older r) (olderState s)
-  older-keeps r Free k = tt
-  older-keeps r (Fresh c) k = tt
-  older-keeps r (Waiting q) k = k
-  older-keeps r (Active a c) k = k
+older-keeps : (own : FarmSheet) (r : Row) (s : RowState) → RowKeeps own r s → RowKeeps own (older r) (olderState s)
+older-keeps own r Free k = tt
+older-keeps own r (Fresh c) k = tt
+older-keeps own r (Waiting q) k = k
+older-keeps own r (Active a c) k = k
 
 pub older-kept : {own : FarmSheet} {rows : List Row} → Kept own rows → Kept own (map older rows)
 older-kept {own} {rows} k =
     record {
       seats = length-map rows older ∙ k .seats;
-      within = λ i h. ap isOpen (at i) ∙ older-open own (rowAt rows i .state) ∙ k .within i h;
+      within = λ i h. ap isOpen (at i) ∙ older-open (rowAt rows i .state) ∙ k .within i h;
       rowsKeep = λ i. subst (λ r. RowKeeps own r (r .state)) (sym (at i)) (older-keeps own (rowAt rows i) (rowAt rows i .state) (k .rowsKeep i));
-      activeOnce = λ a. omega (arith, count-map (activeAs a) older (λ r. older-as own a (r .state)) rows, k .activeOnce a);
-      placesLeft = omega (arith, count-map isActive older (λ r. older-active own (r .state)) rows, k .placesLeft);
+      activeOnce = λ a. omega (arith, count-map (activeAs a) older (λ r. older-as a (r .state)) rows, k .activeOnce a);
+      placesLeft = omega (arith, count-map isActive older (λ r. older-active (r .state)) rows, k .placesLeft);
       possible = λ i. subst (λ r. PossibleAt (r .place) (r .head)) (sym (at i)) (k .possible i);
     }
   where
@@ -215,12 +213,12 @@ expired-sound {own} {f} z = closes-old (clockRun (f .line) f) (clocked (f .line)
         sound-from (closings-kept own (λ seat r. atLimit r) (aged g) kept) (closings-none own atLimit refl (aged g) (kept .seats))
         (subst (Lined (closedWhere own (λ seat r. atLimit r) (aged g) .farm .rows)) (sym (closings-line own (λ seat r. atLimit r) (aged g)))
         (closings-lined own (λ seat r. atLimit r) (aged g) (λ i t. limit-loud (rowAt (map older (g .rows)) i .state) t)
-        (λ i. s .lined i ∙ ap one (sym (ap isWaiting (row-map older refl (g .rows) i) ∙ older-waiting own (rowAt (g .rows) i .state))))))
+        (λ i. s .lined i ∙ ap one (sym (ap isWaiting (row-map older refl (g .rows) i) ∙ older-waiting (rowAt (g .rows) i .state))))))
         (ap length (closings-marks own (λ seat r. atLimit r) (aged g)) ∙ s .marksToo)
 
-ticked-sound : {own : FarmSheet} {f : Farm} → FarmOk own → Sound own f → Sound own (ticked own f .farm)
+pub ticked-sound : {own : FarmSheet} {f : Farm} → Sound own f → Sound own (ticked own f .farm)
 unfolding ticked andThen
-ticked-sound ok s = settle-sound ok (expired-sound s)
+ticked-sound s = settled-sound (expired-sound s)
 
 -- ---- all calls
 
@@ -235,39 +233,28 @@ controller-sound {own} h from to user s =
     by Nothing = tt
     by (At seat) = s
 
-bytes-by-sound : {own : FarmSheet} (h : Held) (seat : ℕ) (input : List ℕ) (x : RowState) → rowAt (h .farm .rows) seat .state ≡ x → FarmOk own → Sound own (h .farm)
+bytes-by-sound : {own : FarmSheet} (h : Held) (seat : ℕ) (input : List ℕ) (x : RowState) → rowAt (h .farm .rows) seat .state ≡ x → Sound own (h .farm)
     → KeepsSound own (bytesBy own h seat input x)
-bytes-by-sound {own} h seat input x e ok s = by x e
+bytes-by-sound {own} h seat input x e s = by x e
   where
     t : Taken
     t = takenBy seat (getD (h .rooms) seat []) input (h .farm)
     takes-bytes : Talks (h .farm) seat → KeepsSound own (tookBytes own h seat t)
     takes-bytes k =
-        bytes-sound seat t ok s k (taken-well seat (getD (h .rooms) seat []) input s)
+        bytes-sound seat t s k (taken-well seat (getD (h .rooms) seat []) input s)
     by : (y : RowState) → rowAt (h .farm .rows) seat .state ≡ y → KeepsSound own (bytesBy own h seat input y)
     by Free q = tt
     by (Fresh c) q = takes-bytes (record { opened = ap isOpenState q; loud = ap isWaitingState q })
     by (Waiting r) q = tt
     by (Active a c) q = takes-bytes (record { opened = ap isOpenState q; loud = ap isWaitingState q })
 
-move-keeps : {own : FarmSheet} (h : Held) (c : Own) → FarmOk own → Sound own (h .farm) → KeepsSound own (move own h c)
+-- every call keeps it
+pub move-keeps : {own : FarmSheet} (h : Held) (c : Own) → Sound own (h .farm) → KeepsSound own (move own h c)
 unfolding move datagramMove
-move-keeps h connect ok s = connects-sound h s
-move-keeps h (bytes seat input) ok s = bytes-by-sound h seat input (rowAt (h .farm .rows) seat .state) refl ok s
-move-keeps {own} h (peerClosed seat) ok s =
-    pick-case (KeepsSound own) (isOpen (rowAt (h .farm .rows) seat)) _ _ (λ e. peer-sound seat ok s e) (λ _. tt)
-move-keeps h linkLost ok s = link-sound s
-move-keeps h (datagram input) ok s = s
-move-keeps h (controller from to user) ok s = controller-sound h from to user s
-
--- EVERY CALL OF A FARM THAT KEEPS RULE 4 LEAVES A FARM whose rows and line keep it.
-pub move-sound : {own : FarmSheet} (h : Held) (c : Own) (g : Given) → FarmOk own → Good own (h .farm) → move own h c ≡ gave g → Sound own (g .held .farm)
-move-sound {own} h c g ok k e = subst (KeepsSound own) e (move-keeps h c ok (sound-of k))
-
--- So does every tick, also as the table makes it.
-pub tick-sound : {own : FarmSheet} (f : Farm) → FarmOk own → Good own f → Sound own (ticked own f .farm)
-tick-sound f ok k = ticked-sound ok (sound-of k)
-
-pub tickMove-sound : {own : FarmSheet} (h : Held) (g : Given) → FarmOk own → Good own (h .farm) → tickMove own h ≡ gave g → Sound own (g .held .farm)
-unfolding tickMove
-tickMove-sound {own} h g ok k e = subst (KeepsSound own) e (tick-sound (h .farm) ok k)
+move-keeps h connect s = connects-sound h s
+move-keeps h (bytes seat input) s = bytes-by-sound h seat input (rowAt (h .farm .rows) seat .state) refl s
+move-keeps {own} h (peerClosed seat) s =
+    pick-case (KeepsSound own) (isOpen (rowAt (h .farm .rows) seat)) _ _ (λ e. peer-sound seat s e) (λ _. tt)
+move-keeps h linkLost s = link-sound s
+move-keeps h (datagram input) s = s
+move-keeps h (controller from to user) s = controller-sound h from to user s

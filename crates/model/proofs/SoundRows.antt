@@ -1,26 +1,24 @@
 -- What rule 4 asks of a farm's rows, without the line and the clocks: how it is kept where one row is replaced by another.
 -- Assumes nothing.
-use Prim.Native.Nat.{ℕ, zero, suc, _+_, _≤_, _<_}
+use Prim.Native.Nat.{ℕ, _+_, _≤_, _<_}
 use mathlib.Core.Path.{_≡_, refl, sym, ap, subst, _∙_}
 use mathlib.Core.Bool.{Bool, true, false, false≢true, true≢false}
-use mathlib.Core.List.{List, [], _∷_, _++_, map}
+use mathlib.Core.List.{List, _∷_}
 use native.Mathlib.Omega.{arith}
-use lib.Dec.{eqb, leb, ltb}
-use lib.ListN.{getD, set, length, length-set}
-use borrow.Author.Tests.{ltb-true, ltb-false, eqb-true, eqb-false, eq-eqb, ne-eqb}
-use Rattle.octets.specs.Choice.{pick, one}
+use lib.Dec.{eqb, ltb}
+use lib.ListN.{set, length, length-set}
+use borrow.Author.Tests.{ltb-true, ltb-false, eq-eqb, ne-eqb}
+use Rattle.octets.specs.Choice.{one}
 use Rattle.octets.specs.Search.{countIf}
-use Rattle.kinds.specs.declared.Clock.{Clock}
-use Rattle.kinds.specs.declared.Request.{Request}
 use Rattle.kinds.specs.declared.RowState.{RowState}
 use Rattle.kinds.specs.declared.RowState.the-variants.{Free, Fresh, Waiting, Active}
 use Rattle.kinds.specs.declared.Row.{Row}
 use Rattle.model.specs.FarmSheet.{FarmSheet}
-use Rattle.model.specs.Row.{initialLimit, generalLimit, freeRow, freshRow, waitingRow, activeRow, rowAt, isOpenState, isOpen, isWaitingState, isWaiting, isActiveState, isActive, activeAsState, activeAs, wantedBy, wanted, atLimitState, atLimit}
+use Rattle.model.specs.Row.{initialLimit, generalLimit, freeRow, freshRow, activeRow, rowAt, isOpenState, isOpen, isWaitingState, isWaiting, isActiveState, isActive, activeAsState, activeAs, wantedBy, atLimitState, atLimit}
 use Rattle.model.specs.Farm.{Farm, seatCount}
 use Rattle.model.specs.Rule.{times, PossibleAt, RowKeeps}
 use Rattle.model.proofs.Cases.{split}
-use Rattle.model.proofs.Rows.{row-put, row-set, open-in, count-set, count-free, times-append, times-gone, times-kept}
+use Rattle.model.proofs.Rows.{row-put, row-set, count-set, count-free}
 use Rattle.model.proofs.Split.{Sound}
 
 -- ---- Sound in four parts

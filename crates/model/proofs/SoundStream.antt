@@ -1,15 +1,15 @@
 -- The places of a row's byte stream stay possible, whatever bytes come.
 -- Assumes nothing.
-use Prim.Native.Nat.{ℕ, zero, suc, _+_, _≤_, _<_}
-use mathlib.Core.Path.{_≡_, refl, sym, ap, subst, _∙_}
-use mathlib.Core.Bool.{Bool, true, false, not, false≢true, true≢false}
+use Prim.Native.Nat.{ℕ, _+_, _≤_, _<_}
+use mathlib.Core.Path.{_≡_, refl, sym, ap, _∙_}
+use mathlib.Core.Bool.{Bool, true, false, not, true≢false}
 use mathlib.Core.Logic.{_⊎_, inl, inr}
-use mathlib.Core.List.{List, [], _∷_, _++_}
+use mathlib.Core.List.{List, [], _∷_}
 use native.Mathlib.Omega.{arith}
 use lib.Dec.{eqb, leb, ltb}
 use lib.ListN.{set, length}
-use borrow.Author.Tests.{leb-true, leb-false, ltb-true, ltb-false, eqb-true, eqb-false, lt-leb}
-use Rattle.octets.specs.Choice.{pick, both, either, unless}
+use borrow.Author.Tests.{leb-true, ltb-true, eqb-true, eqb-false, lt-leb}
+use Rattle.octets.specs.Choice.{either}
 use Rattle.octets.specs.Search.{some, all}
 use Rattle.octets.proofs.ChoiceLaws.{both-left, both-right}
 use Rattle.kinds.specs.declared.Fault.{Fault}
@@ -20,9 +20,9 @@ use Rattle.kinds.specs.declared.Place.{Place}
 use Rattle.kinds.specs.declared.Place.the-variants.{Header, Reading, Skipping}
 use Rattle.wire.specs.declared.header.Header.{Header as Head}
 use Rattle.wire.specs.declared.types.Kind.{Kind}
-use Rattle.wire.specs.Types.{types, tcp, knownOn, lengthFits, isOf, isOfLength}
+use Rattle.wire.specs.Types.{types, tcp, knownOn, lengthFits, isOfLength}
 use Rattle.wire.specs.Header.{headerSize, headerAt, verdictOf, closes, rightPattern, mostPayload}
-use Rattle.model.specs.Stream.{Stream, Event, Fed, more, ends, streamOf, rested, storedIn, afterWrong, judged, headerByte, readByte, skippedByte, feedAt, feed, Taken, takesBy, takes}
+use Rattle.model.specs.Stream.{Stream, Fed, more, ends, afterWrong, judged, feedAt, feed, takesBy, takes}
 use Rattle.model.specs.Rule.{PossibleAt}
 use Rattle.model.proofs.Cases.{pick-case, unless-case, split}
 
