@@ -131,12 +131,12 @@ module _ {own : FarmSheet} {f : Farm} (seat : ℕ) (t : Taken) (s : Sound own f)
 
 module _ {own : FarmSheet} {f : Farm} (seat : ℕ) (s : Sound own f) (k : Talks f seat) where
   -- "All codes but 10 close the row."
-  refused-sound : (a code : ℕ) → eqb code accepted ≡ false → Sound own (answered own seat a code f .farm)
+  pub refused-sound : (a code : ℕ) → eqb code accepted ≡ false → Sound own (answered own seat a code f .farm)
   unfolding answered andThen
   refused-sound a code e =
       pick-case (λ (d : Done). Sound own (d .farm)) (eqb code accepted) _ _ (λ t. absurd (true≢false (sym t ∙ e))) (λ _. closed-sound seat (k .loud) s)
 
-  accepted-sound : (a : ℕ) → Fits own (f .rows) seat (activeRow a) → Sound own (answered own seat a accepted f .farm)
+  pub accepted-sound : (a : ℕ) → Fits own (f .rows) seat (activeRow a) → Sound own (answered own seat a accepted f .farm)
   unfolding answered andThen
   accepted-sound a fits =
       pick-case (λ (d : Done). Sound own (d .farm)) (eqb accepted accepted) _ _
@@ -145,7 +145,7 @@ module _ {own : FarmSheet} {f : Farm} (seat : ℕ) (s : Sound own f) (k : Talks 
       (λ _. closed-sound seat (k .loud) s)
 
   -- the row joins the end of the line
-  joined-sound : (q : Request) → isActive (rowAt (f .rows) seat) ≡ false → own .tester (q .address) ≡ true → q .kind ≤ 1
+  pub joined-sound : (q : Request) → isActive (rowAt (f .rows) seat) ≡ false → own .tester (q .address) ≡ true → q .kind ≤ 1
       → Sound own (joined own seat q f .farm)
   unfolding joined countIf
   joined-sound q idle known small =
@@ -155,6 +155,7 @@ module _ {own : FarmSheet} {f : Farm} (seat : ℕ) (s : Sound own f) (k : Talks 
     where
       within-rows : seat < length (f .rows)
       within-rows = open-in (f .rows) seat (k .opened)
+
       kept : Kept own (set (f .rows) seat (waitingRow q))
       kept =
           put-kept (kept-of s)
@@ -166,8 +167,10 @@ module _ {own : FarmSheet} {f : Farm} (seat : ℕ) (s : Sound own f) (k : Talks 
             places = omega (arith, s .placesLeft);
             can = omega arith;
           })
+
       young : Young (set (f .rows) seat (waitingRow q))
       young = put-young (f .rows) seat (waitingRow q) refl (s .young)
+
       lined : Lined (set (f .rows) seat (waitingRow q)) (f .line ++ (seat ∷ []))
       lined =
           put-lined (f .rows) (f .line) seat (waitingRow q) (f .line ++ (seat ∷ [])) within-rows
@@ -208,6 +211,7 @@ module _ {own : FarmSheet} {f : Farm} (seat : ℕ) (s : Sound own f) (k : Talks 
     where
       P : Decision → Type 0
       P d = Sound own (decidedBy own seat q d f .farm)
+
       by : (x : RowState) → rowAt (f .rows) seat .state ≡ x → own .tester (q .address) ≡ true → q .kind ≤ 1 → P (byState own (f .rows) (q .address) x)
       by Free e t u = socket-sound q (ap isActiveState e) t u
       by (Fresh c) e t u = socket-sound q (ap isActiveState e) t u

@@ -38,10 +38,6 @@ module _ (own : FarmSheet) (test : ℕ → Row → Bool) (f : Farm) where
   unfolding closed
   closings-marks = closings-keep own test (λ x. x .marks ≡ f .marks) f refl (λ i x _ p. p)
 
-  pub closings-length : length (closedWhere own test f .farm .rows) ≡ length (f .rows)
-  unfolding closed
-  closings-length = closings-keep own test (λ x. length (x .rows) ≡ length (f .rows)) f refl (λ i x _ p. length-set (x .rows) i freeRow ∙ p)
-
   pub closings-kept : Kept own (f .rows) → Kept own (closedWhere own test f .farm .rows)
   unfolding closed
   closings-kept k = closings-keep own test (λ x. Kept own (x .rows)) f k (λ i x _ p. free-kept i p)
@@ -104,14 +100,15 @@ module _ (own : FarmSheet) (test : ℕ → Row → Bool) (f : Farm) where
   closings-fewer p e l k h t q =
       let z : one (p (rowAt (closedWhere own test f .farm .rows) k)) ≡ 0 = ap (λ y. one (p y)) (closings-there l k h t) ∙ ap one e in
       let o : one (p (rowAt (f .rows) k)) ≡ 1 = ap one q in
-      omega
-      (arith,
-      closings-keep own test (λ x. countIf p (x .rows) + 1 ≤ countIf p (f .rows) + one (p (rowAt (x .rows) k))) f (omega arith)
-      (λ i x _ b. split (eqb k i)
-      (λ u. let v : one (p (rowAt (x .rows) k)) ≡ one (p (rowAt (x .rows) i)) = ap (λ j. one (p (rowAt (x .rows) j))) (eqb-true k i u) in
-      omega (arith, count-free p e (x .rows) i))
-      (λ u. let v : one (p (rowAt (set (x .rows) i freeRow) k)) ≡ one (p (rowAt (x .rows) k)) = ap (λ y. one (p y)) (row-other (x .rows) i k freeRow (eqb-false k i u)) in
-      omega (arith, count-free p e (x .rows) i))))
+      omega (
+        arith,
+        closings-keep own test (λ x. countIf p (x .rows) + 1 ≤ countIf p (f .rows) + one (p (rowAt (x .rows) k))) f (omega arith)
+            (λ i x _ b. split (eqb k i)
+            (λ u. let v : one (p (rowAt (x .rows) k)) ≡ one (p (rowAt (x .rows) i)) = ap (λ j. one (p (rowAt (x .rows) j))) (eqb-true k i u) in
+            omega (arith, count-free p e (x .rows) i))
+            (λ u. let v : one (p (rowAt (set (x .rows) i freeRow) k)) ≡ one (p (rowAt (x .rows) k)) = ap (λ y. one (p y)) (row-other (x .rows) i k freeRow (eqb-false k i u)) in
+            omega (arith, count-free p e (x .rows) i))),
+      )
 
   -- rows that do not wait close
   pub closings-lined : ((i : ℕ) → test i (rowAt (f .rows) i) ≡ true → isWaiting (rowAt (f .rows) i) ≡ false) → Lined (f .rows) (f .line)
@@ -119,9 +116,10 @@ module _ (own : FarmSheet) (test : ℕ → Row → Bool) (f : Farm) where
   unfolding closed
   closings-lined loud l =
       closings-keep own test (λ x. ((i : ℕ) → test i (rowAt (x .rows) i) ≡ true → isWaiting (rowAt (x .rows) i) ≡ false) × Lined (x .rows) (f .line)) f (loud, l)
-      (λ i x t p.
-      ((λ k. row-set (x .rows) i k freeRow (λ y. test k y ≡ true → isWaiting y ≡ false) (λ _ _ _. refl) (p .0 k)),
-      free-lined (x .rows) (f .line) i (p .0 i t) (p .1)))
+      (λ i x t p. (
+        (λ k. row-set (x .rows) i k freeRow (λ y. test k y ≡ true → isWaiting y ≡ false) (λ _ _ _. refl) (p .0 k)),
+        free-lined (x .rows) (f .line) i (p .0 i t) (p .1),
+      ))
       .1
 
   pub closings-sound : ((i : ℕ) → test i (rowAt (f .rows) i) ≡ true → isWaiting (rowAt (f .rows) i) ≡ false) → Sound own f

@@ -103,8 +103,10 @@ module _ (own : FarmSheet) where
   closings-mine test f h =
       each-mine (closedIf own test) P f h
       (λ i x p. pick-case (λ (d : Done). P (d .farm) × Mine own (d .items)) (test i (rowAt (x .rows) i)) _ _
-      (λ e. ((λ k. row-set (x .rows) i k freeRow (λ y. test k y ≡ true → k < own .rows) (λ q _ _. subst (λ j. j < own .rows) (sym q) (p i e)) (p k)),
-      says-mine i _ (p i e)))
+      (λ e. (
+        (λ k. row-set (x .rows) i k freeRow (λ y. test k y ≡ true → k < own .rows) (λ q _ _. subst (λ j. j < own .rows) (sym q) (p i e)) (p k)),
+        says-mine i _ (p i e),
+      ))
       (λ _. (p, nothing-mine)))
     where
       P : Farm → Type 0
@@ -156,12 +158,15 @@ module _ (own : FarmSheet) where
     where
       a : ℕ
       a = wanted (rowAt (f .rows) head)
+
       home : head < own .rows
       home = ours (kept-of s) head (waiting-open (rowAt (f .rows) head .state) (served-waits head rest e s))
+
       goes-on : (d : Done) → Mine own (d .items) → Ready own rest (d .farm) → Mine own (andThen (andThen d (advanced own rest)) next .items)
       goes-on d p r =
           then-mine (andThen d (advanced own rest)) next (then-mine d (advanced own rest) p (advanced-mine rest (d .farm) (ours (r .kept))))
           (ih (advanced own rest (d .farm) .farm) (advanced-line own rest (d .farm)) (advanced-sound r))
+
       by : (w : HeadVerdict) → Licence own f a w → Mine own (serve own head rest f w next .items)
       by Pending l = nothing-mine
       by (Answer code) l = goes-on (answered own head a code f) (answered-mine head a code f home) (answer-ready head rest e s code l)
@@ -291,8 +296,10 @@ module _ (own : FarmSheet) (h : Held) (s : Sound own (h .farm)) where
     where
       t : Taken
       t = takenBy seat (getD (h .rooms) seat []) input (h .farm)
+
       takes-bytes : Talks (h .farm) seat → MineBy own (tookBytes own h seat t)
       takes-bytes k = bytes-mine own (h .farm) seat t s k (taken-well seat (getD (h .rooms) seat []) input s)
+
       by : (y : RowState) → rowAt (h .farm .rows) seat .state ≡ y → MineBy own (bytesBy own h seat input y)
       by Free q = tt
       by (Fresh c) q = takes-bytes (record { opened = ap isOpenState q; loud = ap isWaitingState q })

@@ -86,6 +86,7 @@ started-is own f = by (f .line)
     by-decision (Ask check) =
         each-keeps (askedIf own check) (cleared f) (λ x. x ≡ cleared f) refl
         (λ i x e. pick-case (λ (d : Done). d .farm ≡ cleared f) (asks check i (rowAt (x .rows) i)) _ _ (λ _. e) (λ _. e))
+
     by : (line : List ℕ) → startedBy own line f .farm ≡ cleared f
     by [] = refl
     by (head ∷ rest) = by-decision (socketRules own (f .rows) (wanted (rowAt (f .rows) head)))
@@ -155,8 +156,10 @@ answered-ready {own} {f} {rest} head a code known room r =
   where
     waits : isWaiting (rowAt (f .rows) head) ≡ true
     waits = head-waits (f .rows) head rest (r .lined)
+
     opened : isOpen (rowAt (f .rows) head) ≡ true
     opened = waiting-open (rowAt (f .rows) head .state) waits
+
     inside : head < length (f .rows)
     inside = open-in (f .rows) head opened
 
@@ -189,19 +192,27 @@ head-licence {own} {f} head s =
     socket-case (λ d. Licence own f a (verdictBy f d)) own (f .rows) a
     (λ seat e h.
     let act : (i : ℕ) → asks (One seat) i (rowAt (f .rows) i) ≡ true → activeAs a (rowAt (f .rows) i) ≡ true =
-        λ i t. subst (λ k. activeAs a (rowAt (f .rows) k) ≡ true) (sym (eqb-true i seat t)) e in
+    λ i t. subst (λ k. activeAs a (rowAt (f .rows) k) ≡ true) (sym (eqb-true i seat t)) e in
     ask-licence a (One seat) s (λ i t. as-active a (rowAt (f .rows) i .state) (act i t))
     (λ q. let mine : activeAs a (rowAt (f .rows) (q .seat)) ≡ true = act (q .seat) (silent-asked (One seat) (f .marks) (q .seat) (rowAt (f .rows) (q .seat)) (q .is)) in
     record {
       nobody = omega (arith, closings-fewer own (isSilent (One seat) (f .marks)) f (activeAs a) refl (s .seats) (q .seat) (q .here) (q .is) mine, s .activeOnce a);
-      place = omega (arith, closings-fewer own (isSilent (One seat) (f .marks)) f isActive refl (s .seats) (q .seat) (q .here) (q .is)
-          (as-active a (rowAt (f .rows) (q .seat) .state) mine), s .placesLeft);
+      place = omega (
+        arith,
+        closings-fewer own (isSilent (One seat) (f .marks)) f isActive refl (s .seats) (q .seat) (q .here) (q .is)
+            (as-active a (rowAt (f .rows) (q .seat) .state) mine),
+        s .placesLeft,
+      );
     }))
     (λ z full. ask-licence a All s (λ i t. t)
     (λ q. record {
       nobody = omega (arith, closings-count own (isSilent All (f .marks)) f (activeAs a) refl);
-      place = omega (arith, closings-fewer own (isSilent All (f .marks)) f isActive refl (s .seats) (q .seat) (q .here) (q .is)
-          (silent-asked All (f .marks) (q .seat) (rowAt (f .rows) (q .seat)) (q .is)), s .placesLeft);
+      place = omega (
+        arith,
+        closings-fewer own (isSilent All (f .marks)) f isActive refl (s .seats) (q .seat) (q .here) (q .is)
+            (silent-asked All (f .marks) (q .seat) (rowAt (f .rows) (q .seat)) (q .is)),
+        s .placesLeft,
+      );
     }))
     (λ z left-over _. record { nobody = z; place = left-over })
   where
@@ -242,6 +253,7 @@ serve-sound {own} {f} head rest v next e s l ih = by v l
   where
     goes-on : (g : Farm) → Ready own rest g → Sound own (next (advanced own rest g .farm) .farm)
     goes-on g r = ih (advanced own rest g .farm) (advanced-line own rest g) (advanced-sound r)
+
     by : (w : HeadVerdict) → Licence own f (wanted (rowAt (f .rows) head)) w → Sound own (serve own head rest f w next .farm)
     by Pending l = s
     by (Answer code) l = goes-on _ (answer-ready head rest e s code l)

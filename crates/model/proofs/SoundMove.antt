@@ -60,8 +60,10 @@ newly-sound {own} =
     all-free i zero = refl
     all-free zero (suc n) = refl
     all-free (suc i) (suc n) = all-free i n
+
     at : (i : ℕ) (P : Row → Type 0) → P freeRow → P (rowAt (replicate seatCount freeRow) i)
     at i P p = subst P (sym (all-free i seatCount)) p
+
     none : (p : Row → Bool) → p freeRow ≡ false → (n : ℕ) → countIf p (replicate n freeRow) ≡ 0
     none p e zero = refl
     none p e (suc n) = let q : one (p freeRow) ≡ 0 = ap one e in omega (arith, none p e n)
@@ -110,10 +112,13 @@ left-sound {own} {f} seat inside s = by (f .line) refl
   where
     g : Farm
     g = closed own seat f .farm
+
     kept : Kept own (set (f .rows) seat freeRow)
     kept = free-kept seat (kept-of s)
+
     young : Young (set (f .rows) seat freeRow)
     young = free-young (f .rows) seat (s .young)
+
     by : (line : List ℕ) → f .line ≡ line → Sound own (leftBy own seat line g .farm)
     by [] e =
         sound-from kept young
@@ -239,9 +244,11 @@ bytes-by-sound {own} h seat input x e s = by x e
   where
     t : Taken
     t = takenBy seat (getD (h .rooms) seat []) input (h .farm)
+
     takes-bytes : Talks (h .farm) seat → KeepsSound own (tookBytes own h seat t)
     takes-bytes k =
         bytes-sound seat t s k (taken-well seat (getD (h .rooms) seat []) input s)
+
     by : (y : RowState) → rowAt (h .farm .rows) seat .state ≡ y → KeepsSound own (bytesBy own h seat input y)
     by Free q = tt
     by (Fresh c) q = takes-bytes (record { opened = ap isOpenState q; loud = ap isWaitingState q })

@@ -110,18 +110,12 @@ shut-loud (Fresh c) e = absurd (true≢false e)
 shut-loud (Waiting q) e = absurd (true≢false e)
 shut-loud (Active a c) e = refl
 
--- a waiting row is not active, and knows what it wants
+-- a waiting row is not active, and asks for a tester's address
 pub waiting-not : (s : RowState) → isWaitingState s ≡ true → isActiveState s ≡ false
 waiting-not Free e = refl
 waiting-not (Fresh c) e = refl
 waiting-not (Waiting q) e = refl
 waiting-not (Active a c) e = absurd (false≢true e)
-
-pub idle-not-as : (a : ℕ) (s : RowState) → isActiveState s ≡ false → activeAsState a s ≡ false
-idle-not-as a Free e = refl
-idle-not-as a (Fresh c) e = refl
-idle-not-as a (Waiting q) e = refl
-idle-not-as a (Active b c) e = absurd (true≢false e)
 
 pub wanted-tester : (own : FarmSheet) (r : Row) (s : RowState) → isWaitingState s ≡ true → RowKeeps own r s → own .tester (wantedBy s) ≡ true
 wanted-tester own r Free e k = absurd (false≢true e)

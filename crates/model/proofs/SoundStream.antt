@@ -59,6 +59,7 @@ passes-some h e =
   where
     wrong-not : (fault : Fault) → Wrong fault ≡ Passes → ⊥
     wrong-not fault q = let z : _≡_ {A = ℕ} 0 1 = cc in omega arith
+
     never : verdictOf h ≡ Passes → eqb (h .length) 0 ≡ true → ⊥
     never q z =
         unless-case (λ v. v ≡ Passes → ⊥) (rightPattern (h .version) (h .inverse)) _ _ (λ _. wrong-not Pattern)
@@ -112,4 +113,3 @@ takes-well s (byte ∷ bytes) k = by (feedAt (s .place) (s .head) (s .room) byte
     by : (d : Fed) → FedWell d → ((t : Stream) → PossibleIn t → PossibleIn (takes t bytes .stream)) → PossibleIn (takesBy d (λ t. takes t bytes) .stream)
     by (more t) q ih = ih t q
     by (ends e t) q ih = q
-
