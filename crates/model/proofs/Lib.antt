@@ -4,4 +4,12 @@ pub mod Seats
 pub mod Split
 pub mod TidyRows
 pub mod Tidy
+pub mod SoundRows
+pub mod SoundClose
+pub mod SoundLine
+pub mod SoundStream
+pub mod SoundBytes
+pub mod SoundMove
+pub mod SoundItems
+pub mod SoundMain
 pub mod Try
