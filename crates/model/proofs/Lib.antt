@@ -12,4 +12,5 @@ pub mod SoundBytes
 pub mod SoundMove
 pub mod SoundItems
 pub mod SoundMain
+pub mod SameSite
 pub mod Try
