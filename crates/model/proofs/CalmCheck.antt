@@ -24,7 +24,7 @@ use Rattle.kinds.specs.declared.Decision.the-variants.{Now, Ask}
 use Rattle.kinds.specs.declared.HeadVerdict.{HeadVerdict}
 use Rattle.kinds.specs.declared.HeadVerdict.the-variants.{Pending}
 use Rattle.model.specs.FarmSheet.{FarmSheet}
-use Rattle.model.specs.Row.{freeRow, rowAt, isWaiting, isActive, activeAs, wanted}
+use Rattle.model.specs.Row.{clockOf, checkLimit, stepped, freeRow, rowAt, isWaitingState, isWaiting, isActiveState, isActive, activeAsState, activeAs, wantedBy, wanted, olderState, heardState}
 use Rattle.model.specs.Farm.{Farm, seatCount}
 use Rattle.model.specs.Line.{socketRules, askedBy, isAsked, isMarked, isSilent, allAnswered, verdictBy, headVerdict, settle}
 use Rattle.model.specs.Rule.{times, HeadKeeps, Good}
@@ -66,7 +66,7 @@ pub record SameCheck (own : FarmSheet) (f g : Farm) (head : ℕ) : Type 0 where
 abbrev pub Stays : FarmSheet → (f g : Farm) → ℕ → Type 0
 Stays own f g head = headVerdict own g head ≡ Pending → SameCheck own f g head
 
-same-check : (own : FarmSheet) (f g : Farm) (head : ℕ) → wanted (rowAt (g .rows) head) ≡ wanted (rowAt (f .rows) head)
+pub same-check : (own : FarmSheet) (f g : Farm) (head : ℕ) → wanted (rowAt (g .rows) head) ≡ wanted (rowAt (f .rows) head)
     → SameAsked own (f .rows) (g .rows) (wanted (rowAt (f .rows) head)) → SameCheck own f g head
 same-check own f g head e s = record { check = rw e (s .check); asked = λ i. rw e (s .asked i) }
 
@@ -98,3 +98,101 @@ verdict-same own f g head s c m = rw (s .check) (by (headNeed own f head) (λ i.
     by (Ask check) h =
         rw (every-same (λ i. isSilent check (g .marks) i (rowAt (g .rows) i)) (λ i. isSilent check (f .marks) i (rowAt (f .rows) i))
         (λ i. rw (m, h i) refl) seatCount, c) refl
+
+-- ---- a change that no rule on the line sees
+
+-- a row in this state waits, is active and asks for an address as one in that
+pub record SameState (s t : RowState) : Type 0 where
+  pub waits : isWaitingState t ≡ isWaitingState s
+  pub wants : wantedBy t ≡ wantedBy s
+  pub active : isActiveState t ≡ isActiveState s
+  pub address : (a : ℕ) → activeAsState a t ≡ activeAsState a s
+
+pub same-state : (s : RowState) → SameState s s
+same-state s = record { waits = refl; wants = refl; active = refl; address = λ a. refl }
+
+pub same-fresh : (c d : Clock) → SameState (Fresh c) (Fresh d)
+same-fresh c d = record { waits = refl; wants = refl; active = refl; address = λ a. refl }
+
+pub same-active : (a : ℕ) (c d : Clock) → SameState (Active a c) (Active a d)
+same-active a c d = record { waits = refl; wants = refl; active = refl; address = λ b. refl }
+
+pub older-same : (s : RowState) → SameState s (olderState s)
+older-same Free = same-state Free
+older-same (Fresh c) = same-fresh c (stepped c)
+older-same (Waiting q) = same-state (Waiting q)
+older-same (Active a c) = same-active a c (stepped c)
+
+pub heard-same : (n : ℕ) (s : RowState) → SameState s (heardState n s)
+heard-same n Free = same-state Free
+heard-same n (Fresh c) = same-fresh c c
+heard-same n (Waiting q) = same-state (Waiting q)
+heard-same n (Active a c) = same-active a c (pick (eqb n 0) c (clockOf 0))
+
+abbrev pub SameRow : Row → Row → Type 0
+SameRow x y = SameState (x .state) (y .state)
+
+-- the rows are as they were, but one that is the same in this sense
+pub set-same : (rows : List Row) (seat : ℕ) (x : Row) → SameRow (rowAt rows seat) x → (i : ℕ) → SameRow (rowAt rows i) (rowAt (set rows seat x) i)
+set-same rows seat x s i = row-set rows seat i x (λ y. SameRow (rowAt rows i) y) (λ e l. rw e s) (same-state (rowAt rows i .state))
+
+module _ {own : FarmSheet} {f : Farm} (k : Ready own f) (g : Farm) (s : (i : ℕ) → SameRow (rowAt (f .rows) i) (rowAt (g .rows) i)) where
+  -- the check is the same, whether or not it goes on
+  pub rows-same : (head : ℕ) → SameCheck own f g head
+  rows-same head =
+      same-check own f g head (s head .wants)
+      (same-asked own (f .rows) (g .rows) (wanted (rowAt (f .rows) head)) (λ i. s i .active) (λ i. s i .address (wanted (rowAt (f .rows) head))))
+
+  pub ready-same : g .line ≡ f .line → g .clock ≡ f .clock → g .marks ≡ f .marks → Ready own g
+  ready-same e c m =
+      record {
+        activeOnce = λ a. omega (arith, k .activeOnce a, alike-count (activeAs a) refl (f .rows) (g .rows) (λ i. s i .address a));
+        placesLeft = omega (arith, k .placesLeft, alike-count isActive refl (f .rows) (g .rows) (λ i. s i .active));
+        headWaits = λ head rest l. s head .waits ∙ k .headWaits head rest (sym e ∙ l);
+        calm =
+          record {
+            headKeeps = by (f .line) refl (k .calm .headKeeps);
+            checkRuns = subst (λ (x : Clock). x .ticks < checkLimit) (sym c) (k .calm .checkRuns);
+            marksAsked = λ i t. asked i ∙ k .calm .marksAsked i (subst (λ (x : List Bool). isMarked x i ≡ true) m t);
+          };
+      }
+    where
+      by : (line : List ℕ) → f .line ≡ line → HeadKeeps own f line → HeadKeeps own g (g .line)
+      by [] l h = subst (HeadKeeps own g) (sym (e ∙ l)) (ap (λ (x : Clock). x .ticks) c ∙ h)
+      by (head ∷ rest) l h = subst (HeadKeeps own g) (sym (e ∙ l)) (verdict-same own f g head (rows-same head) c m ∙ h)
+
+      at : (i : ℕ) (line : List ℕ) → f .line ≡ line → isAsked own g i ≡ isAsked own f i
+      at i [] l = asked-none own g (e ∙ l) i ∙ sym (asked-none own f l i)
+      at i (head ∷ rest) l = asked-is own g head rest (e ∙ l) i ∙ rows-same head .asked i ∙ sym (asked-is own f head rest l i)
+
+      asked : (i : ℕ) → isAsked own g i ≡ isAsked own f i
+      asked i = at i (f .line) refl
+
+-- ---- what a call hands to settling
+
+pub data Handed (own : FarmSheet) (f g : Farm) : Type 0 where
+  -- a check starts, or the line is empty
+  anew : Anew g → Handed own f g
+  -- the head stays, and with it the rows that its check asks; marks stand on rows that were asked
+  stays : (head : ℕ) (rest left : List ℕ) → f .line ≡ head ∷ rest → g .line ≡ head ∷ left → Stays own f g head
+    → ((i : ℕ) → isMarked (g .marks) i ≡ true → isAsked own f i ≡ true) → Handed own f g
+
+pub handed-calm : (own : FarmSheet) (f g : Farm) → Handed own f g → Calm own (settle own g .farm)
+handed-calm own f g (anew a) = settle-fits own g (anew-fits own g (g .line) a)
+handed-calm own f g (stays head rest left e l s m) =
+    settle-fits own g (subst (Fits own g) (sym l) (λ p i t. s p .asked i ∙ sym (asked-is own f head rest e i) ∙ m i t))
+
+-- a change that leaves the line alone, the clock too where the line is empty, and marks none but asked rows
+pub line-stays : {own : FarmSheet} {f : Farm} → Ready own f → (g : Farm) → g .line ≡ f .line → (f .line ≡ [] → g .clock ≡ f .clock)
+    → ((i : ℕ) → isMarked (g .marks) i ≡ true → isAsked own f i ≡ true)
+    → ((head : ℕ) (rest : List ℕ) → f .line ≡ head ∷ rest → Stays own f g head) → Handed own f g
+line-stays {own} {f} k g e c m s = by (f .line) refl (k .calm .headKeeps)
+  where
+    none : f .line ≡ [] → (i : ℕ) (b : Bool) → isMarked (g .marks) i ≡ b → isMarked (g .marks) i ≡ false
+    none l i true t = absurd (false≢true (sym (asked-none own f l i) ∙ m i t))
+    none l i false t = t
+
+    by : (line : List ℕ) → f .line ≡ line → HeadKeeps own f line → Handed own f g
+    by [] l h =
+        anew (record { clockZero = ap (λ (x : Clock). x .ticks) (c l) ∙ h; noneMarked = λ i. none l i (isMarked (g .marks) i) refl })
+    by (head ∷ rest) l h = stays head rest rest l (e ∙ l) (s head rest l) m

@@ -94,7 +94,7 @@ activeOf (Waiting q) = 0
 activeOf (Active a c) = a
 
 -- in words of states: the row is active as something exactly where it is active
-as-active : (a : ℕ) (s : RowState) → activeAsState a s ≡ true → isActiveState s ≡ true
+pub as-active : (a : ℕ) (s : RowState) → activeAsState a s ≡ true → isActiveState s ≡ true
 as-active a Free e = absurd (false≢true e)
 as-active a (Fresh c) e = absurd (false≢true e)
 as-active a (Waiting q) e = absurd (false≢true e)

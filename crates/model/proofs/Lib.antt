@@ -5,4 +5,5 @@ pub mod Split
 pub mod Settling
 pub mod CalmRows
 pub mod CalmCheck
+pub mod CalmChange
 pub mod Try
