@@ -6,4 +6,5 @@ pub mod Settling
 pub mod CalmRows
 pub mod CalmCheck
 pub mod CalmChange
+pub mod CalmMove
 pub mod Try

@@ -114,7 +114,7 @@ pending-runs own f head e = by (headNeed own f head) refl e
         (λ u q. runs check n (leb-false checkLimit (f .clock .ticks) u)))
         p
 
-calm-none : (own : FarmSheet) (f : Farm) → f .line ≡ [] → Anew f → Calm own f
+pub calm-none : (own : FarmSheet) (f : Farm) → f .line ≡ [] → Anew f → Calm own f
 calm-none own f e a =
     record {
       headKeeps = subst (HeadKeeps own f) (sym e) (a .clockZero);
