@@ -7,4 +7,5 @@ pub mod CalmRows
 pub mod CalmCheck
 pub mod CalmChange
 pub mod CalmMove
+pub mod Keeps
 pub mod Try
