@@ -1,42 +1,36 @@
 -- The changes that a call makes before it settles, one by one: while the head stays, its check asks the same rows.
 -- Assumes nothing.
-use Prim.Native.Nat.{ℕ, zero, suc, _+_, _≤_, _<_}
+use Prim.Native.Nat.{ℕ, zero, suc, _<_}
 use mathlib.Core.Path.{_≡_, refl, sym, ap, subst, _∙_}
-use mathlib.Core.Bool.{Bool, true, false, false≢true, true≢false}
+use mathlib.Core.Bool.{Bool, true, false, false≢true}
 use mathlib.Core.List.{List, [], _∷_, _++_, map}
 use native.Mathlib.Omega.{arith}
-use lib.Dec.{eqb, leb}
-use lib.ListN.{getD, set, length}
+use lib.Dec.{eqb}
+use lib.ListN.{set}
 use lib.Seq.{getD-set-other}
-use borrow.Author.Tests.{eqb-true, eqb-false, eq-eqb, ne-eqb}
-use Rattle.octets.specs.declared.Found.{Found}
+use borrow.Author.Tests.{eqb-true, eqb-false, ne-eqb}
 use Rattle.octets.specs.declared.Found.the-variants.{At, Nothing}
-use Rattle.octets.specs.Choice.{pick, both, one}
+use Rattle.octets.specs.Choice.{pick, both}
 use Rattle.octets.specs.Search.{firstAt, countIf}
 use Rattle.octets.proofs.ChoiceLaws.{both-right}
-use Rattle.kinds.specs.declared.Clock.{Clock}
 use Rattle.kinds.specs.declared.Request.{Request}
 use Rattle.kinds.specs.declared.RowState.{RowState}
 use Rattle.kinds.specs.declared.RowState.the-variants.{Free, Fresh, Waiting, Active}
 use Rattle.kinds.specs.declared.Row.{Row}
-use Rattle.kinds.specs.declared.Check.{Check}
-use Rattle.kinds.specs.declared.Decision.{Decision}
-use Rattle.kinds.specs.declared.Decision.the-variants.{Now, Ask}
 use Rattle.kinds.specs.declared.HeadVerdict.the-variants.{Pending}
 use Rattle.model.specs.FarmSheet.{FarmSheet}
-use Rattle.model.specs.Row.{freeRow, freshRow, waitingRow, activeRow, rowAt, isFree, isWaitingState, isWaiting, isActive, activeAs, wanted, older, atLimitState, atLimit, stepped}
+use Rattle.model.specs.Row.{freeRow, waitingRow, activeRow, rowAt, isWaitingState, isWaiting, isActive, activeAs, wanted, older, atLimitState, atLimit}
 use Rattle.model.specs.Stream.{Taken}
-use Rattle.model.specs.Farm.{Farm, withRow, withRows, withLine, withMarks, Done, quietly, closed, closedWhere}
-use Rattle.model.specs.Line.{socketRules, isAsked, isMarked, headVerdict, isEmpty, cleared, started, advanced, joined, without, leftBy, left, marked, settle}
+use Rattle.model.specs.Farm.{Farm, withRow, withLine, withMarks, Done, quietly, closed, closedWhere}
+use Rattle.model.specs.Line.{isAsked, isMarked, headVerdict, isEmpty, started, advanced, joined, without, leftBy, left, marked}
 use Rattle.model.specs.Bytes.{heardRow, heard}
 use Rattle.model.specs.Move.{clockRun, aged}
-use Rattle.model.specs.Rule.{HeadKeeps, Good}
+use Rattle.model.specs.Rule.{HeadKeeps}
 use Rattle.model.proofs.Cases.{pick-case, split}
 use Rattle.model.proofs.Rows.{row-set, row-map}
 use Rattle.model.proofs.Seats.{closings-keep}
-use Rattle.model.proofs.Split.{Calm}
-use Rattle.model.proofs.Settling.{headNeed, asksRow, Anew, anew-cleared, started-farm, advanced-farm, Runs, runs, pending-runs}
-use Rattle.model.proofs.CalmRows.{Alike, NoMore, as-active, opened-asked}
+use Rattle.model.proofs.Settling.{Anew, anew-cleared, started-farm, advanced-farm, Runs, runs, pending-runs}
+use Rattle.model.proofs.CalmRows.{Alike, NoMore, as-active, more-same}
 use Rattle.model.proofs.CalmCheck.{Ready, SameCheck, Stays, same-check, no-more, SameRow, set-same, heard-same, older-same, rows-same, ready-same, Handed, anew, stays, line-stays}
 
 -- ---- one row changes
@@ -48,6 +42,11 @@ set-no-more rows seat x h i a =
 -- another row asks for what it did
 set-wanted : (rows : List Row) (seat head : ℕ) (x : Row) → (head ≡ seat → ⊥) → wanted (rowAt (set rows seat x) head) ≡ wanted (rowAt rows head)
 set-wanted rows seat head x n = row-set rows seat head x (λ y. wanted y ≡ wanted (rowAt rows head)) (λ e l. absurd (n e)) refl
+
+row-freed : (rows : List Row) (i : ℕ) → rowAt (set rows i freeRow) i ≡ freeRow
+row-freed [] i = refl
+row-freed (x ∷ rows) zero = refl
+row-freed (x ∷ rows) (suc i) = row-freed rows i
 
 -- a row that does not wait isn't the head
 pub apart : {own : FarmSheet} {f : Farm} → Ready own f → (head : ℕ) (rest : List ℕ) → f .line ≡ head ∷ rest → (seat : ℕ)
@@ -82,10 +81,10 @@ module _ {own : FarmSheet} {f : Farm} (k : Ready own f) where
   head-pending head rest e = subst (HeadKeeps own f) e (k .calm .headKeeps)
 
   -- A ROW IS MADE ACTIVE by a request that passes the line: its address was not active, and places were free.
-  pub opened-stays : (seat a head : ℕ) (rest : List ℕ) → f .line ≡ head ∷ rest → isWaiting (rowAt (f .rows) seat) ≡ false
+  pub opened-asked : (seat a head : ℕ) (rest : List ℕ) → f .line ≡ head ∷ rest → isWaiting (rowAt (f .rows) seat) ≡ false
       → isActive (rowAt (f .rows) seat) ≡ false → firstAt (activeAs a) 0 (f .rows) ≡ Nothing → countIf isActive (f .rows) < own .quota
       → SameCheck own f (withRow f seat (activeRow a)) head
-  opened-stays seat a head rest e n u o q = by (pending-runs own f head (head-pending head rest e))
+  opened-asked seat a head rest e n u o q = by (pending-runs own f head (head-pending head rest e))
     where
       w : ℕ
       w = wanted (rowAt (f .rows) head)
@@ -107,12 +106,12 @@ module _ {own : FarmSheet} {f : Farm} (k : Ready own f) where
       by : Runs own f head → SameCheck own f (withRow f seat (activeRow a)) head
       by (runs check d l) =
           same-check own f (withRow f seat (activeRow a)) head (set-wanted (f .rows) seat head (activeRow a) (apart k head rest e seat n))
-          (opened-asked own (f .rows) (set (f .rows) seat (activeRow a)) w q alike check d)
+          (more-same own (f .rows) (set (f .rows) seat (activeRow a)) w q alike check d)
 
   -- A ROW JOINS the end of the line.
-  pub joined-stays : (seat : ℕ) (q : Request) (line : List ℕ) (head : ℕ) → (head ≡ seat → ⊥)
+  pub joined-asked : (seat : ℕ) (q : Request) (line : List ℕ) (head : ℕ) → (head ≡ seat → ⊥)
       → Stays own f (withLine (withRow f seat (waitingRow q)) line) head
-  joined-stays seat q line head n =
+  joined-asked seat q line head n =
       no-more k (withLine (withRow f seat (waitingRow q)) line) head (set-wanted (f .rows) seat head (waitingRow q) n)
       (set-no-more (f .rows) seat (waitingRow q) (λ a t. absurd (false≢true t)))
 
@@ -147,7 +146,7 @@ module _ {own : FarmSheet} {f : Farm} (k : Ready own f) where
         → countIf isActive (f .rows) < own .quota → Handed own f (withRow f seat (activeRow a))
     opened-handed a u o q =
         line-stays k (withRow f seat (activeRow a)) refl (λ e. refl) (k .calm .marksAsked)
-        (λ head rest e p. opened-stays seat a head rest e n u o q)
+        (λ head rest e p. opened-asked seat a head rest e n u o q)
 
     pub joined-handed : (q : Request) → Handed own f (joined own seat q f .farm)
     unfolding joined
@@ -159,11 +158,12 @@ module _ {own : FarmSheet} {f : Farm} (k : Ready own f) where
         by : (line : List ℕ) → f .line ≡ line → Handed own f (pick (isEmpty (f .line)) (started own g) (quietly g) .farm)
         by [] e =
             subst (λ (b : Bool). Handed own f (pick b (started own g) (quietly g) .farm)) (sym (ap isEmpty e))
-            (anew (subst Anew (sym (started-farm own g)) (anew-cleared g)))
+            (anew (λ head rest l. absurd (let z : _≡_ {A = ℕ} 0 1 = cc in omega arith))
+            (subst Anew (sym (started-farm own g)) (anew-cleared g)))
         by (head ∷ rest) e =
             subst (λ (b : Bool). Handed own f (pick b (started own g) (quietly g) .farm)) (sym (ap isEmpty e))
             (stays head rest (rest ++ (seat ∷ [])) e (ap (λ (l : List ℕ). l ++ (seat ∷ [])) e)
-            (joined-stays seat q (f .line ++ (seat ∷ [])) head (apart k head rest e seat n)) (k .calm .marksAsked))
+            (joined-asked seat q (f .line ++ (seat ∷ [])) head (apart k head rest e seat n)) (k .calm .marksAsked))
 
   pub marked-handed : (seat address : ℕ) → Handed own f (marked own seat address f)
   unfolding marked
@@ -183,13 +183,20 @@ module _ {own : FarmSheet} {f : Farm} (k : Ready own f) where
   unfolding left closed
   left-handed seat = by (f .line) refl
     where
+      gone : (head : ℕ) (rest : List ℕ) (first : ℕ) (more : List ℕ) → eqb seat head ≡ true → f .line ≡ head ∷ rest → f .line ≡ first ∷ more
+          → isWaiting (rowAt (advanced own rest (closed own seat f .farm) .farm .rows) first) ≡ false
+      gone head rest first more t e l =
+          let z : seat ≡ first = eqb-true seat head t ∙ cc in
+          subst (λ (x : Farm). isWaiting (rowAt (x .rows) first) ≡ false) (sym (advanced-farm own rest (closed own seat f .farm)))
+          (subst (λ (i : ℕ). isWaiting (rowAt (set (f .rows) seat freeRow) i) ≡ false) z (ap isWaiting (row-freed (f .rows) seat)))
+
       by : (line : List ℕ) → f .line ≡ line → Handed own f (leftBy own seat line (closed own seat f .farm) .farm)
       by [] e =
           line-stays k (closed own seat f .farm) refl (λ z. refl) (k .calm .marksAsked)
           (λ head rest l. absurd (let z : _≡_ {A = ℕ} 0 1 = cc in omega arith))
       by (head ∷ rest) e =
           pick-case (λ (d : Done). Handed own f (d .farm)) (eqb seat head) _ _
-          (λ t. anew (subst Anew (sym (advanced-farm own rest (closed own seat f .farm))) (anew-cleared (withLine (closed own seat f .farm) rest))))
+          (λ t. anew (λ first more l. gone head rest first more t e l) (subst Anew (sym (advanced-farm own rest (closed own seat f .farm))) (anew-cleared (withLine (closed own seat f .farm) rest))))
           (λ t. stays head rest (without seat rest) e refl
           (no-more k (withLine (closed own seat f .farm) (head ∷ without seat rest)) head
           (set-wanted (f .rows) seat head freeRow (λ z. eqb-false seat head t (sym z)))

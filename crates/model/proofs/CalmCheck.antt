@@ -1,38 +1,32 @@
 -- While the head of a line stays, the rows that its check asks stay the same: for each change that a call makes before it settles.
 -- Assumes nothing.
-use Prim.Native.Nat.{ℕ, zero, suc, _+_, _≤_, _<_}
+use Prim.Native.Nat.{ℕ, zero, suc, _≤_, _<_}
 use mathlib.Core.Path.{_≡_, refl, sym, ap, subst, _∙_}
-use mathlib.Core.Bool.{Bool, true, false, false≢true, true≢false}
-use mathlib.Core.List.{List, [], _∷_, _++_, map}
+use mathlib.Core.Bool.{Bool, true, false, false≢true}
+use mathlib.Core.List.{List, [], _∷_}
 use native.Mathlib.Omega.{arith}
-use lib.Dec.{eqb, leb}
-use lib.ListN.{getD, set, length}
-use borrow.Author.Tests.{eqb-true, eqb-false, eq-eqb, ne-eqb}
-use Rattle.octets.specs.declared.Found.{Found}
-use Rattle.octets.specs.declared.Found.the-variants.{At, Nothing}
-use Rattle.octets.specs.Choice.{pick, both, one}
-use Rattle.octets.specs.Search.{firstAt, countIf}
+use lib.Dec.{eqb}
+use lib.ListN.{set}
+use borrow.Author.Tests.{eq-eqb}
+use Rattle.octets.specs.Choice.{pick, one}
+use Rattle.octets.specs.Search.{countIf}
 use Rattle.octets.specs.Fold.{upTo}
 use Rattle.kinds.specs.declared.Clock.{Clock}
-use Rattle.kinds.specs.declared.Request.{Request}
 use Rattle.kinds.specs.declared.RowState.{RowState}
 use Rattle.kinds.specs.declared.RowState.the-variants.{Free, Fresh, Waiting, Active}
 use Rattle.kinds.specs.declared.Row.{Row}
-use Rattle.kinds.specs.declared.Check.{Check}
 use Rattle.kinds.specs.declared.Decision.{Decision}
 use Rattle.kinds.specs.declared.Decision.the-variants.{Now, Ask}
-use Rattle.kinds.specs.declared.HeadVerdict.{HeadVerdict}
 use Rattle.kinds.specs.declared.HeadVerdict.the-variants.{Pending}
 use Rattle.model.specs.FarmSheet.{FarmSheet}
-use Rattle.model.specs.Row.{clockOf, checkLimit, stepped, freeRow, rowAt, isWaitingState, isWaiting, isActiveState, isActive, activeAsState, activeAs, wantedBy, wanted, olderState, heardState}
+use Rattle.model.specs.Row.{clockOf, checkLimit, stepped, rowAt, isWaitingState, isWaiting, isActiveState, isActive, activeAsState, activeAs, wantedBy, wanted, olderState, heardState}
 use Rattle.model.specs.Farm.{Farm, seatCount}
-use Rattle.model.specs.Line.{socketRules, askedBy, isAsked, isMarked, isSilent, allAnswered, verdictBy, headVerdict, settle}
+use Rattle.model.specs.Line.{askedBy, isAsked, isMarked, isSilent, allAnswered, verdictBy, headVerdict, settle}
 use Rattle.model.specs.Rule.{times, HeadKeeps, Good}
-use Rattle.model.proofs.Cases.{pick-case, split}
 use Rattle.model.proofs.Rows.{row-set}
 use Rattle.model.proofs.Split.{Calm, calm-of}
 use Rattle.model.proofs.Settling.{headNeed, asksRow, asked-is, asked-none, Anew, Fits, anew-fits, Runs, runs, pending-runs, settle-fits}
-use Rattle.model.proofs.CalmRows.{Alike, NoMore, alike-count, SameAsked, same-asked, fewer-asked, opened-asked}
+use Rattle.model.proofs.CalmRows.{NoMore, alike-count, SameAsked, same-asked, fewer-same}
 
 -- ---- what is needed of a farm before a change
 
@@ -78,7 +72,7 @@ no-more {own} {f} k g head e h p = by (pending-runs own g head p)
     by : Runs own g head → SameCheck own f g head
     by (runs check n l) =
         same-check own f g head e
-        (fewer-asked own (f .rows) (g .rows) (wanted (rowAt (f .rows) head)) (k .activeOnce (wanted (rowAt (f .rows) head))) (k .placesLeft) h check
+        (fewer-same own (f .rows) (g .rows) (wanted (rowAt (f .rows) head)) (k .activeOnce (wanted (rowAt (f .rows) head))) (k .placesLeft) h check
         (rw e at n))
 
 -- ---- the verdict is the same where check, clock and marks are
@@ -171,16 +165,26 @@ module _ {own : FarmSheet} {f : Farm} (k : Ready own f) (g : Farm) (s : (i : ℕ
 -- ---- what a call hands to settling
 
 pub data Handed (own : FarmSheet) (f g : Farm) : Type 0 where
-  -- a check starts, or the line is empty
-  anew : Anew g → Handed own f g
+  -- a check starts, or the line is empty; a head that was there waits no longer
+  anew : ((head : ℕ) (rest : List ℕ) → f .line ≡ head ∷ rest → isWaiting (rowAt (g .rows) head) ≡ false) → Anew g → Handed own f g
   -- the head stays, and with it the rows that its check asks; marks stand on rows that were asked
   stays : (head : ℕ) (rest left : List ℕ) → f .line ≡ head ∷ rest → g .line ≡ head ∷ left → Stays own f g head
     → ((i : ℕ) → isMarked (g .marks) i ≡ true → isAsked own f i ≡ true) → Handed own f g
 
 pub handed-calm : (own : FarmSheet) (f g : Farm) → Handed own f g → Calm own (settle own g .farm)
-handed-calm own f g (anew a) = settle-fits own g (anew-fits own g (g .line) a)
+handed-calm own f g (anew n a) = settle-fits own g (anew-fits own g (g .line) a)
 handed-calm own f g (stays head rest left e l s m) =
     settle-fits own g (subst (Fits own g) (sym l) (λ p i t. s p .asked i ∙ sym (asked-is own f head rest e i) ∙ m i t))
+
+-- WHILE THE HEAD STAYS, its check asks the rows that it asked: so after all that a call does before it settles.
+pub handed-asked : (own : FarmSheet) (f g : Farm) → Handed own f g → (head : ℕ) (rest : List ℕ) → f .line ≡ head ∷ rest
+    → isWaiting (rowAt (g .rows) head) ≡ true → Stays own f g head
+handed-asked own f g (anew n a) head rest e w = absurd (false≢true (sym (n head rest e) ∙ w))
+handed-asked own f g (stays first more left l q s m) head rest e w =
+    let z : first ≡ head = cc in subst (Stays own f g) z s
+
+pub same-then : {own : FarmSheet} {f g x : Farm} {head : ℕ} → SameCheck own f g head → SameCheck own g x head → SameCheck own f x head
+same-then a b = record { check = b .check ∙ a .check; asked = λ i. b .asked i ∙ a .asked i }
 
 -- a change that leaves the line alone, the clock too where the line is empty, and marks none but asked rows
 pub line-stays : {own : FarmSheet} {f : Farm} → Ready own f → (g : Farm) → g .line ≡ f .line → (f .line ≡ [] → g .clock ≡ f .clock)
@@ -194,5 +198,6 @@ line-stays {own} {f} k g e c m s = by (f .line) refl (k .calm .headKeeps)
 
     by : (line : List ℕ) → f .line ≡ line → HeadKeeps own f line → Handed own f g
     by [] l h =
-        anew (record { clockZero = ap (λ (x : Clock). x .ticks) (c l) ∙ h; noneMarked = λ i. none l i (isMarked (g .marks) i) refl })
+        anew (λ head rest q. absurd (let z : _≡_ {A = ℕ} 0 1 = cc in omega arith))
+        (record { clockZero = ap (λ (x : Clock). x .ticks) (c l) ∙ h; noneMarked = λ i. none l i (isMarked (g .marks) i) refl })
     by (head ∷ rest) l h = stays head rest rest l (e ∙ l) (s head rest l) m

@@ -1,18 +1,17 @@
 -- The rules on the running check, call by call.
 -- Assumes nothing.
-use Prim.Native.Nat.{ℕ, zero, suc, _+_, _≤_, _<_}
+use Prim.Native.Nat.{ℕ, zero, suc, _<_}
 use mathlib.Core.Path.{_≡_, refl, sym, ap, subst, _∙_}
-use mathlib.Core.Bool.{Bool, true, false, false≢true, true≢false}
+use mathlib.Core.Bool.{true, false, false≢true}
 use mathlib.Core.List.{List, [], _∷_}
 use native.Mathlib.Nat.{not-suc-le-zero}
 use native.Mathlib.Omega.{arith}
 use lib.Dec.{eqb, leb}
-use lib.ListN.{getD, set, length, take}
+use lib.ListN.{getD, length, take}
 use lib.Seq.{getD-take}
-use borrow.Author.Tests.{leb-false, eqb-true, eq-eqb}
+use borrow.Author.Tests.{leb-false, eq-eqb}
 use Rattle.octets.specs.declared.Found.{Found}
 use Rattle.octets.specs.declared.Found.the-variants.{At, Nothing}
-use Rattle.octets.specs.Choice.{pick, unless}
 use Rattle.octets.specs.Search.{firstAt, countIf}
 use Rattle.kinds.specs.declared.Fault.{Fault}
 use Rattle.kinds.specs.declared.Request.{Request}
@@ -29,18 +28,17 @@ use Rattle.wire.specs.Payload.{requestIn, addressIn, endsIn}
 use Rattle.model.specs.FarmSheet.{FarmSheet, TargetIs, stranger, unreachable, reachable}
 use Rattle.model.specs.Row.{clockOf, freeRow, freshRow, activeRow, rowAt, isFreeState, isFree, isOpen, isWaitingState, isWaiting, isActiveState, isActive, activeAsState, activeAs}
 use Rattle.model.specs.Stream.{Event, inputEnded, wrong, finished, skipped, Taken}
-use Rattle.model.specs.Farm.{Farm, withRow, withLine, Done, quietly, andThen, closed, closedWhere}
-use Rattle.model.specs.Line.{accepted, byPlaces, byHolder, socketRules, byState, decide, answered, joined, left, marked, cleared, settle}
+use Rattle.model.specs.Farm.{Farm, withRow, withLine, Done, andThen, closed, closedWhere}
+use Rattle.model.specs.Line.{accepted, byHolder, socketRules, byState, decide, answered, left, cleared}
 use Rattle.model.specs.Bytes.{decidedBy, requested, toTarget, diagnosed, messaged, faulted, eventDone, heardRow, heard, takenBy, bytesDone}
-use Rattle.model.specs.Move.{Own, connect, bytes, peerClosed, linkLost, datagram, controller, Held, Given, Move, refused, gave, connectedAt, connects, bytesBy, peerGone, linkGone, ticked, datagramMove, toTester, isTarget, mostUser, controllerMove, move, tickMove}
+use Rattle.model.specs.Move.{Own, connect, bytes, peerClosed, linkLost, datagram, controller, Held, Given, Move, gave, connectedAt, connects, bytesBy, peerGone, linkGone, ticked, datagramMove, toTester, isTarget, mostUser, controllerMove, move}
 use Rattle.model.specs.Table.{heldBy}
 use Rattle.model.specs.Rule.{Good}
-use Rattle.model.proofs.Cases.{pick-case, unless-case, split}
-use Rattle.model.proofs.Rows.{row-set, row-same}
+use Rattle.model.proofs.Cases.{pick-case, unless-case}
 use Rattle.model.proofs.Split.{Calm, calm-of}
 use Rattle.model.proofs.Settling.{calm-none, anew-cleared, Stands, stands, first-stands}
-use Rattle.model.proofs.CalmCheck.{Ready, ready-of, SameState, set-same, heard-same, ready-same, Handed, handed-calm}
-use Rattle.model.proofs.CalmChange.{heard-ready, kept-handed, closed-handed, again-handed, opened-handed, joined-handed, marked-handed, left-handed, ticking, ticking-handed}
+use Rattle.model.proofs.CalmCheck.{Ready, ready-of, SameState, set-same, heard-same, ready-same, Stays, same-then, Handed, handed-calm, handed-asked}
+use Rattle.model.proofs.CalmChange.{heard-asked, heard-ready, kept-handed, closed-handed, again-handed, opened-handed, joined-handed, marked-handed, left-handed, ticking, ticking-asked, ticking-handed}
 
 -- ---- what a request gets
 
@@ -137,6 +135,10 @@ unfolding heard
 heard-waits f seat t =
     set-same (f .rows) seat (heardRow (t .count) (t .stream) (rowAt (f .rows) seat)) (heard-same (t .count) (rowAt (f .rows) seat .state)) seat .waits
 
+heard-line : (f : Farm) (seat : ℕ) (t : Taken) → heard seat t f .line ≡ f .line
+unfolding heard
+heard-line f seat t = refl
+
 module _ {own : FarmSheet} {f : Farm} (k : Ready own f) where
   pub bytes-calm : (seat : ℕ) (t : Taken) → isWaiting (rowAt (f .rows) seat) ≡ false → Calm own (bytesDone own seat t f .farm)
   unfolding bytesDone andThen
@@ -219,6 +221,29 @@ module _ {own : FarmSheet} (h : Held) (k : Good own (h .farm)) where
       (λ v. tester-calm from to user (firstAt (activeAs to) 0 (h .farm .rows)))))
 
 -- ---- the main theorems
+
+-- WHILE THE HEAD STAYS, the rows asked stay the same rows (open points, A32). `f` is the farm before the call, `g` the farm that the call
+-- hands to settling. If the head still waits in `g` and its check goes on, then it is the same check, and a row is asked after exactly if
+-- it was before. The single changes have their lemmas in CalmChange: heard-asked, closed-asked, opened-asked, joined-asked, marked-asked,
+-- ticking-asked.
+module _ {own : FarmSheet} {f : Farm} (k : Good own f) (head : ℕ) (rest : List ℕ) (e : f .line ≡ head ∷ rest) where
+  -- in a bytes call, whatever its bytes come to
+  pub bytes-asked : (seat : ℕ) (t : Taken) → isWaiting (rowAt (f .rows) seat) ≡ false
+      → let g = eventDone own seat (t .event) (t .stream .room) (heard seat t f) .farm in
+      isWaiting (rowAt (g .rows) head) ≡ true → Stays own f g head
+  bytes-asked seat t n w p =
+      same-then (heard-asked (ready-of k) seat t head)
+      (handed-asked own (heard seat t f) (eventDone own seat (t .event) (t .stream .room) (heard seat t f) .farm)
+      (event-handed (heard-ready (ready-of k) seat t) seat (heard-waits f seat t ∙ n) (t .event) (t .stream .room)) head rest
+      (heard-line f seat t ∙ e) w p)
+
+  -- where the peer closes a row
+  pub left-asked : (seat : ℕ) → let g = left own seat (closed own seat f .farm) .farm in isWaiting (rowAt (g .rows) head) ≡ true → Stays own f g head
+  left-asked seat w = handed-asked own f (left own seat (closed own seat f .farm) .farm) (left-handed (ready-of k) seat) head rest e w
+
+  -- in a tick
+  pub tick-asked : Stays own f (ticking own f) head
+  tick-asked = ticking-asked (ready-of k) head rest e
 
 -- EVERY ACCEPTED CALL keeps the rules on the running check: after it the line is empty with clock 0 and no marks, or its head's check is
 -- needed and undecided, its clock is below the limit, and marks stand on asked rows only.

@@ -1,16 +1,15 @@
 -- Which rows are asked, by the rows alone: while a head's check is still needed, no change of the rows alters which rows it asks.
 -- Assumes nothing.
-use Prim.Native.Nat.{ℕ, zero, suc, _+_, _≤_, _<_}
+use Prim.Native.Nat.{ℕ, zero, suc, _≤_, _<_}
 use mathlib.Core.Path.{_≡_, refl, sym, ap, _∙_}
-use mathlib.Core.Bool.{Bool, true, false, false≢true, true≢false}
+use mathlib.Core.Bool.{Bool, true, false, false≢true}
 use mathlib.Core.List.{List, [], _∷_}
 use native.Mathlib.Omega.{arith}
-use lib.Dec.{eqb, leb}
-use lib.ListN.{getD, length}
-use borrow.Author.Tests.{leb-true, leb-false, lt-leb, eqb-true, eq-eqb}
+use lib.Dec.{leb}
+use borrow.Author.Tests.{leb-true, lt-leb, eqb-true, eq-eqb}
 use Rattle.octets.specs.declared.Found.{Found}
 use Rattle.octets.specs.declared.Found.the-variants.{At, Nothing}
-use Rattle.octets.specs.Choice.{pick, one}
+use Rattle.octets.specs.Choice.{one}
 use Rattle.octets.specs.Search.{firstAt, countIf}
 use Rattle.kinds.specs.declared.RowState.{RowState}
 use Rattle.kinds.specs.declared.RowState.the-variants.{Free, Fresh, Waiting, Active}
@@ -22,7 +21,7 @@ use Rattle.kinds.specs.declared.Decision.the-variants.{Now, Ask}
 use Rattle.model.specs.FarmSheet.{FarmSheet}
 use Rattle.model.specs.Row.{freeRow, rowAt, isActiveState, isActive, activeAsState, activeAs}
 use Rattle.model.specs.Line.{accepted, byPlaces, byHolder, socketRules, askedBy}
-use Rattle.model.proofs.Cases.{pick-case, split}
+use Rattle.model.proofs.Cases.{pick-case}
 use Rattle.model.proofs.Rows.{count-some}
 use Rattle.model.proofs.Settling.{Stands, stands, first-stands}
 
@@ -166,10 +165,10 @@ module _ (own : FarmSheet) (l m : List Row) (w : ℕ) where
 
   -- NO ROW HAS BECOME ACTIVE, and a check is still needed: it is the check that was needed before, and it asks the same rows. A row
   -- that was asked alone is still there, for else the address were free; where all are asked, no place has come free.
-  pub fewer-asked : countIf (activeAs w) l ≤ 1 → countIf isActive l ≤ own .quota → NoMore l m → (check : Check)
+  pub fewer-same : countIf (activeAs w) l ≤ 1 → countIf isActive l ≤ own .quota → NoMore l m → (check : Check)
       → socketRules own m w ≡ Ask check → SameAsked own l m w
   unfolding socketRules
-  fewer-asked u q h check = by (firstAt (activeAs w) 0 m) refl
+  fewer-same u q h check = by (firstAt (activeAs w) 0 m) refl
     where
       that : (s : ℕ) → firstAt (activeAs w) 0 m ≡ At s → Stands (activeAs w) freeRow m s 0 → SameAsked own l m w
       that s o (stands i z g t) =
@@ -188,10 +187,10 @@ module _ (own : FarmSheet) (l m : List Row) (w : ℕ) where
           (λ t g. absurd (let z : _≡_ {A = ℕ} 0 1 = cc in omega arith)) e
 
   -- A ROW HAS BECOME ACTIVE though a line stands: places were free, so the check is of one row, and that one stays.
-  pub opened-asked : countIf isActive l < own .quota → ((s : ℕ) → firstAt (activeAs w) 0 l ≡ At s → Alike (activeAs w) l m)
+  pub more-same : countIf isActive l < own .quota → ((s : ℕ) → firstAt (activeAs w) 0 l ≡ At s → Alike (activeAs w) l m)
       → (check : Check) → socketRules own l w ≡ Ask check → SameAsked own l m w
   unfolding socketRules
-  opened-asked q k check = by (firstAt (activeAs w) 0 l) refl
+  more-same q k check = by (firstAt (activeAs w) 0 l) refl
     where
       by : (o : Found) → firstAt (activeAs w) 0 l ≡ o → byHolder own l o ≡ Ask check → SameAsked own l m w
       by (At s) o e = same-one s (alike-first (activeAs w) refl l m (k s o) 0 ∙ o) o

@@ -2,14 +2,12 @@
 -- Assumes nothing. The rules on rows and line (the half `Sound`) are taken as given where the section below names them.
 use Prim.{Unit, tt}
 use Prim.Native.Nat.{ℕ, zero, suc, _+_, _≤_, _<_}
-use mathlib.Core.Path.{_≡_, refl, sym, ap, subst, _∙_}
-use mathlib.Core.Bool.{Bool, true, false}
-use mathlib.Core.List.{List, [], _∷_, map}
+use mathlib.Core.Path.{_≡_, refl, subst}
+use mathlib.Core.List.{List, [], _∷_}
 use native.Mathlib.Omega.{arith}
 use lib.Dec.{eqb, leb, ltb}
-use lib.ListN.{getD, set}
+use lib.ListN.{set}
 use borrow.Author.Tests.{ltb-true, lt-ltb}
-use Rattle.octets.specs.Choice.{pick, unless}
 use Rattle.sheet.specs.declared.rows.Owner.{Owner}
 use Rattle.sheet.specs.declared.rows.Owner.the-variants.{Seat, Nobody}
 use Rattle.sheet.specs.Sheet.{mostQuota, farmCount}
@@ -20,7 +18,7 @@ use Rattle.sheet.proofs.RowsLaws.{owned-few, owner-seat}
 use Rattle.model.specs.FarmSheet.{FarmSheet, farmSheet, slotSheet}
 use Rattle.model.specs.Farm.{Farm, seatCount, newFarm}
 use Rattle.model.specs.Move.{Own, connect, bytes, peerClosed, linkLost, datagram, controller, Held, Given, Move, refused, gave, ticked, move, tickMove}
-use Rattle.model.specs.Table.{Table, noHeld, slot, goodTable, Call, connectTo, bytesFrom, peerClosedOn, linkLostOf, tick, datagramTo, messageFrom, Lent, leastOutput, assemblingSize, Whose, nobodys, farms, everyones, ofFarm, ofOwner, whose, Did, Outcome, refuses, did, movedTo, heldBy, slotTick, tickTable, called, ifLent, step, renewed, startStep, tableOf}
+use Rattle.model.specs.Table.{Table, slot, goodTable, Call, connectTo, bytesFrom, peerClosedOn, linkLostOf, tick, datagramTo, messageFrom, Lent, leastOutput, assemblingSize, Whose, nobodys, farms, everyones, ofFarm, ofOwner, whose, Did, Outcome, refuses, did, movedTo, heldBy, slotTick, tickTable, called, ifLent, step, renewed, startStep, tableOf}
 use Rattle.model.specs.History.{Made, fresh, stepOf, run}
 use Rattle.model.specs.Rule.{Good}
 use Rattle.model.proofs.Cases.{pick-case, unless-case}

@@ -7,7 +7,7 @@ use mathlib.Core.List.{List, [], _∷_}
 use mathlib.Core.Logic.{⊎-elim}
 use native.Mathlib.Nat.{not-suc-le-zero, eq-or-lt-of-le}
 use native.Mathlib.Omega.{arith}
-use lib.Dec.{eqb, leb}
+use lib.Dec.{leb}
 use lib.ListN.{getD, length, replicate}
 use borrow.Author.Tests.{leb-false, leb-true, lt-leb, eq-eqb}
 use Rattle.octets.specs.declared.Found.{Found}
@@ -24,8 +24,8 @@ use Rattle.kinds.specs.declared.HeadVerdict.{HeadVerdict}
 use Rattle.kinds.specs.declared.HeadVerdict.the-variants.{Pending, Answer, RunOut}
 use Rattle.model.specs.FarmSheet.{FarmSheet}
 use Rattle.model.specs.Row.{checkLimit, freeRow, rowAt, isActive, activeAs, wanted}
-use Rattle.model.specs.Farm.{Farm, seatCount, newFarm, noMarks, withLine, Done, quietly, does, andThen, eachSeat, closedWhere}
-use Rattle.model.specs.Line.{accepted, byHolder, socketRules, askedBy, askedIn, isAsked, asks, isSilent, allAnswered, askedIf, asking, cleared, startedBy, started, advanced, answered, isMarked, refusalOf, verdictBy, headVerdict, serve, settleLine, settle}
+use Rattle.model.specs.Farm.{Farm, seatCount, newFarm, noMarks, withLine, Done, quietly, andThen, closedWhere}
+use Rattle.model.specs.Line.{accepted, byHolder, socketRules, askedBy, isAsked, asks, isSilent, allAnswered, askedIf, asking, cleared, startedBy, started, advanced, answered, isMarked, verdictBy, headVerdict, serve, settleLine, settle}
 use Rattle.model.specs.Rule.{HeadKeeps}
 use Rattle.model.proofs.Cases.{pick-case, split}
 use Rattle.model.proofs.Seats.{each-keeps}
