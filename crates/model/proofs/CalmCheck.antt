@@ -90,8 +90,11 @@ verdict-same own f g head s c m = rw (s .check) (by (headNeed own f head) (λ i.
     by : (d : Decision) → ((i : ℕ) → askedBy d i (rowAt (g .rows) i) ≡ askedBy d i (rowAt (f .rows) i)) → verdictBy g d ≡ verdictBy f d
     by (Now code) h = refl
     by (Ask check) h =
-        rw (every-same (λ i. isSilent check (g .marks) i (rowAt (g .rows) i)) (λ i. isSilent check (f .marks) i (rowAt (f .rows) i))
-        (λ i. rw (m, h i) refl) seatCount, c) refl
+        rw (
+          every-same (λ i. isSilent check (g .marks) i (rowAt (g .rows) i)) (λ i. isSilent check (f .marks) i (rowAt (f .rows) i))
+              (λ i. rw (m, h i) refl) seatCount,
+          c,
+        ) refl
 
 -- ---- a change that no rule on the line sees
 
@@ -144,11 +147,11 @@ module _ {own : FarmSheet} {f : Farm} (k : Ready own f) (g : Farm) (s : (i : ℕ
         placesLeft = omega (arith, k .placesLeft, alike-count isActive refl (f .rows) (g .rows) (λ i. s i .active));
         headWaits = λ head rest l. s head .waits ∙ k .headWaits head rest (sym e ∙ l);
         calm =
-          record {
-            headKeeps = by (f .line) refl (k .calm .headKeeps);
-            checkRuns = subst (λ (x : Clock). x .ticks < checkLimit) (sym c) (k .calm .checkRuns);
-            marksAsked = λ i t. asked i ∙ k .calm .marksAsked i (subst (λ (x : List Bool). isMarked x i ≡ true) m t);
-          };
+            record {
+              headKeeps = by (f .line) refl (k .calm .headKeeps);
+              checkRuns = subst (λ (x : Clock). x .ticks < checkLimit) (sym c) (k .calm .checkRuns);
+              marksAsked = λ i t. asked i ∙ k .calm .marksAsked i (subst (λ (x : List Bool). isMarked x i ≡ true) m t);
+            };
       }
     where
       by : (line : List ℕ) → f .line ≡ line → HeadKeeps own f line → HeadKeeps own g (g .line)
@@ -169,7 +172,7 @@ pub data Handed (own : FarmSheet) (f g : Farm) : Type 0 where
   anew : ((head : ℕ) (rest : List ℕ) → f .line ≡ head ∷ rest → isWaiting (rowAt (g .rows) head) ≡ false) → Anew g → Handed own f g
   -- the head stays, and with it the rows that its check asks; marks stand on rows that were asked
   stays : (head : ℕ) (rest left : List ℕ) → f .line ≡ head ∷ rest → g .line ≡ head ∷ left → Stays own f g head
-    → ((i : ℕ) → isMarked (g .marks) i ≡ true → isAsked own f i ≡ true) → Handed own f g
+      → ((i : ℕ) → isMarked (g .marks) i ≡ true → isAsked own f i ≡ true) → Handed own f g
 
 pub handed-calm : (own : FarmSheet) (f g : Farm) → Handed own f g → Calm own (settle own g .farm)
 handed-calm own f g (anew n a) = settle-fits own g (anew-fits own g (g .line) a)

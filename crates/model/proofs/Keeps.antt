@@ -79,9 +79,9 @@ whose-in s (messageFrom f from to user) = farm-in s f (controller from to user)
 -- ---- the half `Sound`, as its own files prove it
 
 module _
-  (move-sound : (own : FarmSheet) (h : Held) (c : Own) (g : Given) → FarmOk own → Good own (h .farm) → move own h c ≡ gave g → Sound own (g .held .farm))
-  (tick-sound : (own : FarmSheet) (f : Farm) → FarmOk own → Good own f → Sound own (ticked own f .farm))
-  (new-sound : (own : FarmSheet) → Sound own newFarm) where
+    (move-sound : (own : FarmSheet) (h : Held) (c : Own) (g : Given) → FarmOk own → Good own (h .farm) → move own h c ≡ gave g → Sound own (g .held .farm))
+    (tick-sound : (own : FarmSheet) (f : Farm) → FarmOk own → Good own f → Sound own (ticked own f .farm))
+    (new-sound : (own : FarmSheet) → Sound own newFarm) where
   -- A NEW FARM keeps the rules of every sheet.
   pub new-good : (own : FarmSheet) → Good own newFarm
   new-good own = good-of (new-sound own) (new-calm own)

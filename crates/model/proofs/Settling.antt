@@ -134,7 +134,6 @@ calm-pending own f head rest e p m =
     below : Runs own f head → f .clock .ticks < checkLimit
     below (runs check n l) = l
 
-
 calm-next : (own : FarmSheet) (rest : List ℕ) (next : Farm → Done) → ((g : Farm) → g .line ≡ rest → Anew g → Calm own (next g .farm))
     → (f : Farm) → Calm own (next (advanced own rest f .farm) .farm)
 calm-next own rest next ih f =
