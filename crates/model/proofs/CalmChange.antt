@@ -35,7 +35,8 @@ use Rattle.model.proofs.CalmCheck.{Ready, SameCheck, Stays, same-check,
 
 -- ---- one row changes
 
-set-no-more : (rows : List Row) (seat : ℕ) (x : Row) → ((a : ℕ) → activeAs a x ≡ true → activeAs a (rowAt rows seat) ≡ true) → NoMore rows (set rows seat x)
+set-no-more : (rows : List Row) (seat : ℕ) (x : Row) → ((a : ℕ) → activeAs a x ≡ true → activeAs a (rowAt rows seat) ≡ true)
+    → NoMore rows (set rows seat x)
 set-no-more rows seat x h i a =
     row-set rows seat i x (λ y. activeAs a y ≡ true → activeAs a (rowAt rows i) ≡ true) (λ e l t. rw e (h a t)) (λ t. t)
 
@@ -196,7 +197,8 @@ module _ {own : FarmSheet} {f : Farm} (k : Ready own f) where
           (λ head rest l. absurd (let z : _≡_ {A = ℕ} 0 1 = cc in omega arith))
       by (head ∷ rest) e =
           pick-case (λ (d : Done). Handed own f (d .farm)) (eqb seat head) _ _
-          (λ t. anew (λ first more l. gone head rest first more t e l) (subst Anew (sym (advanced-farm own rest (closed own seat f .farm))) (anew-cleared (withLine (closed own seat f .farm) rest))))
+          (λ t. anew (λ first more l. gone head rest first more t e l)
+          (subst Anew (sym (advanced-farm own rest (closed own seat f .farm))) (anew-cleared (withLine (closed own seat f .farm) rest))))
           (λ t. stays head rest (without seat rest) e refl
           (no-more k (withLine (closed own seat f .farm) (head ∷ without seat rest)) head
           (set-wanted (f .rows) seat head freeRow (λ z. eqb-false seat head t (sym z)))
@@ -242,7 +244,8 @@ ticking-aged f (head ∷ rest) e =
       wants = λ i w. aged-same (f .rows) i .wants;
     }
 
-ticking-closed : (own : FarmSheet) (f : Farm) (seat : ℕ) (x : Farm) → atLimit (rowAt (x .rows) seat) ≡ true → Ticking f x → Ticking f (closed own seat x .farm)
+ticking-closed : (own : FarmSheet) (f : Farm) (seat : ℕ) (x : Farm) → atLimit (rowAt (x .rows) seat) ≡ true → Ticking f x
+    → Ticking f (closed own seat x .farm)
 unfolding closed
 ticking-closed own f seat x t k =
     record {

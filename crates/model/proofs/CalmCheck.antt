@@ -77,7 +77,8 @@ no-more {own} {f} k g head e h p = by (pending-runs own g head p)
 
 -- ---- the verdict is the same where check, clock and marks are
 
-every-same : (b c : ℕ → Bool) → ((i : ℕ) → b i ≡ c i) → (n : ℕ) → upTo (λ i ok. pick (b i) false ok) true n ≡ upTo (λ i ok. pick (c i) false ok) true n
+every-same : (b c : ℕ → Bool) → ((i : ℕ) → b i ≡ c i) → (n : ℕ)
+    → upTo (λ i ok. pick (b i) false ok) true n ≡ upTo (λ i ok. pick (c i) false ok) true n
 unfolding upTo
 every-same b c e zero = refl
 every-same b c e (suc n) = rw (e n, every-same b c e n) refl
@@ -85,7 +86,8 @@ every-same b c e (suc n) = rw (e n, every-same b c e n) refl
 pub verdict-same : (own : FarmSheet) (f g : Farm) (head : ℕ) → SameCheck own f g head → g .clock ≡ f .clock → g .marks ≡ f .marks
     → headVerdict own g head ≡ headVerdict own f head
 unfolding headVerdict allAnswered
-verdict-same own f g head s c m = rw (s .check) (by (headNeed own f head) (λ i. sym (ap (λ d. askedBy d i (rowAt (g .rows) i)) (s .check)) ∙ s .asked i))
+verdict-same own f g head s c m =
+    rw (s .check) (by (headNeed own f head) (λ i. sym (ap (λ d. askedBy d i (rowAt (g .rows) i)) (s .check)) ∙ s .asked i))
   where
     by : (d : Decision) → ((i : ℕ) → askedBy d i (rowAt (g .rows) i) ≡ askedBy d i (rowAt (f .rows) i)) → verdictBy g d ≡ verdictBy f d
     by (Now code) h = refl

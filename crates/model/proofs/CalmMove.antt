@@ -133,7 +133,8 @@ module _ {own : FarmSheet} {f : Farm} (k : Ready own f) (seat : ℕ) (n : isWait
 heard-waits : (f : Farm) (seat : ℕ) (t : Taken) → isWaiting (rowAt (heard seat t f .rows) seat) ≡ isWaiting (rowAt (f .rows) seat)
 unfolding heard
 heard-waits f seat t =
-    set-same (f .rows) seat (heardRow (t .count) (t .stream) (rowAt (f .rows) seat)) (heard-same (t .count) (rowAt (f .rows) seat .state)) seat .waits
+    set-same (f .rows) seat (heardRow (t .count) (t .stream) (rowAt (f .rows) seat))
+    (heard-same (t .count) (rowAt (f .rows) seat .state)) seat .waits
 
 heard-line : (f : Farm) (seat : ℕ) (t : Taken) → heard seat t f .line ≡ f .line
 unfolding heard
@@ -194,7 +195,8 @@ module _ {own : FarmSheet} (h : Held) (k : Good own (h .farm)) where
   connect-calm Nothing e = calm-of k
   connect-calm (At seat) e = opens-calm (ready-of k) seat (lowest-free (own .rows) (h .farm .rows) seat e)
 
-  take-calm : (seat : ℕ) (input : List ℕ) (s : RowState) → rowAt (h .farm .rows) seat .state ≡ s → Calm own (heldBy h (bytesBy own h seat input s) .farm)
+  take-calm : (seat : ℕ) (input : List ℕ) (s : RowState) → rowAt (h .farm .rows) seat .state ≡ s
+      → Calm own (heldBy h (bytesBy own h seat input s) .farm)
   take-calm seat input Free e = calm-of k
   take-calm seat input (Fresh c) e =
       bytes-calm (ready-of k) seat (takenBy seat (getD (h .rooms) seat []) input (h .farm)) (ap isWaitingState e)

@@ -58,7 +58,8 @@ module _ (p : Row → Bool) (none : p freeRow ≡ false) where
   pub full-alike : (l m : List Row) → Fewer p l m → countIf p l ≤ countIf p m → Alike p l m
   unfolding countIf
   full-alike [] [] h c i = refl
-  full-alike [] (y ∷ m) h c zero = one-even (p y) (p freeRow) (let z : one (p freeRow) ≡ 0 = ap one none in omega (arith, one-mono (p freeRow) (p y) (h 0)))
+  full-alike [] (y ∷ m) h c zero =
+      one-even (p y) (p freeRow) (let z : one (p freeRow) ≡ 0 = ap one none in omega (arith, one-mono (p freeRow) (p y) (h 0)))
   full-alike [] (y ∷ m) h c (suc i) = full-alike [] m (λ k. h (suc k)) (omega arith) i
   full-alike (x ∷ l) [] h c zero =
       one-even (p freeRow) (p x) (let z : one (p freeRow) ≡ 0 = ap one none in omega (arith, one-mono (p x) (p freeRow) (h 0)))

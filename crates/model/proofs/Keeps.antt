@@ -47,7 +47,8 @@ abbrev pub GoodAll : List ℕ → ℕ → Table → Type 0
 GoodAll s i [] = Unit {0}
 GoodAll s i (h ∷ t) = Good (slotSheet s i) (h .farm) × GoodAll s (suc i) t
 
-pub set-good : (s : List ℕ) (i n : ℕ) (t : Table) (f : ℕ) (h : Held) → i + f ≡ n → GoodAll s i t → Good (slotSheet s n) (h .farm) → GoodAll s i (set t f h)
+pub set-good : (s : List ℕ) (i n : ℕ) (t : Table) (f : ℕ) (h : Held) → i + f ≡ n → GoodAll s i t
+    → Good (slotSheet s n) (h .farm) → GoodAll s i (set t f h)
 set-good s i n [] f h e k g = tt
 set-good s i n (x ∷ t) zero h e k g = (subst (λ (m : ℕ). Good (slotSheet s m) (h .farm)) (omega arith) g, k .1)
 set-good s i n (x ∷ t) (suc f) h e k g = (k .0, set-good s (suc i) n t f h (omega arith) (k .1) g)
@@ -79,7 +80,8 @@ whose-in s (messageFrom f from to user) = farm-in s f (controller from to user)
 -- ---- the half `Sound`, as its own files prove it
 
 module _
-    (move-sound : (own : FarmSheet) (h : Held) (c : Own) (g : Given) → FarmOk own → Good own (h .farm) → move own h c ≡ gave g → Sound own (g .held .farm))
+    (move-sound : (own : FarmSheet) (h : Held) (c : Own) (g : Given) → FarmOk own → Good own (h .farm) → move own h c ≡ gave g
+    → Sound own (g .held .farm))
     (tick-sound : (own : FarmSheet) (f : Farm) → FarmOk own → Good own f → Sound own (ticked own f .farm))
     (new-sound : (own : FarmSheet) → Sound own newFarm) where
   -- A NEW FARM keeps the rules of every sheet.
@@ -87,7 +89,8 @@ module _
   new-good own = good-of (new-sound own) (new-calm own)
 
   -- EVERY ACCEPTED CALL OF A FARM keeps rule 4.
-  pub move-good : {own : FarmSheet} (h : Held) (c : Own) (g : Given) → FarmOk own → Good own (h .farm) → move own h c ≡ gave g → Good own (g .held .farm)
+  pub move-good : {own : FarmSheet} (h : Held) (c : Own) (g : Given) → FarmOk own → Good own (h .farm) → move own h c ≡ gave g
+      → Good own (g .held .farm)
   move-good {own} h c g o k e = good-of (move-sound own h c g o k e) (move-calm h c g k e)
 
   -- SO DOES THE TICK OF A FARM.
@@ -108,7 +111,8 @@ module _
       set-good s 0 f t f (v .held) (omega arith) k
       (move-good (slot t f) c v (slot-ok s f g h) (slot-good s 0 f t f (omega arith) k) e)
 
-  slotTick-good : (s : List ℕ) (i : ℕ) (h : Held) → GoodSheet s → Good (slotSheet s i) (h .farm) → Good (slotSheet s i) (heldBy h (slotTick s i h) .farm)
+  slotTick-good : (s : List ℕ) (i : ℕ) (h : Held) → GoodSheet s → Good (slotSheet s i) (h .farm)
+      → Good (slotSheet s i) (heldBy h (slotTick s i h) .farm)
   unfolding tickMove
   slotTick-good s i h g k =
       pick-case (λ m. Good (slotSheet s i) (heldBy h m .farm)) (ltb i (farmCount s)) _ _
@@ -142,7 +146,8 @@ module _
       (unless-case (λ o. GoodAll s 0 (tableOf t o)) (goodTable s t) _ _ (λ e. k) (λ e. called-good s t (whose s c) g k (whose-in s c)))
 
   -- the same, of an accepted call
-  pub step-good : (s : List ℕ) (l : Lent) (t : Table) (c : Call) (d : Did) → GoodSheet s → GoodAll s 0 t → step s l t c ≡ did d → GoodAll s 0 (d .table)
+  pub step-good : (s : List ℕ) (l : Lent) (t : Table) (c : Call) (d : Did) → GoodSheet s → GoodAll s 0 t → step s l t c ≡ did d
+      → GoodAll s 0 (d .table)
   step-good s l t c d g k e = subst (λ (o : Outcome). GoodAll s 0 (tableOf t o)) e (step-keeps s l t c g k)
 
   -- AN ACCEPTED START leaves every slot keeping rule 4, whatever the table was.

@@ -165,7 +165,8 @@ some-no b zero i h e = absurd (not-suc-le-zero h)
 some-no b (suc n) i h e =
     split (b n) (λ t. rw t refl)
     (λ t. rw t
-    (some-no b n i (⊎-elim (λ (q : suc i ≡ suc n). absurd (true≢false (sym e ∙ rw (suc-inj q) t))) (λ (l : suc i < suc n). omega arith) (eq-or-lt-of-le h)) e))
+    (some-no b n i
+    (⊎-elim (λ (q : suc i ≡ suc n). absurd (true≢false (sym e ∙ rw (suc-inj q) t))) (λ (l : suc i < suc n). omega arith) (eq-or-lt-of-le h)) e))
   where
     suc-inj : suc i ≡ suc n → i ≡ n
     suc-inj q = omega arith
