@@ -13,4 +13,10 @@ pub mod SoundMove
 pub mod SoundItems
 pub mod SoundMain
 pub mod SameSite
+pub mod Settling
+pub mod CalmRows
+pub mod CalmCheck
+pub mod CalmChange
+pub mod CalmMove
+pub mod Keeps
 pub mod Try
