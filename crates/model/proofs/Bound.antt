@@ -3,14 +3,16 @@
 use Prim.Native.Nat.{ℕ, zero, suc, _+_, _*_, _≤_, _<_}
 use mathlib.Core.Path.{_≡_, refl, sym, ap, subst, _∙_}
 use mathlib.Core.Bool.{Bool, true, false, false≢true}
+use mathlib.Core.Logic.{⊎-elim}
 use mathlib.Core.List.{List, [], _∷_, _++_}
-use native.Mathlib.Nat.{not-suc-le-zero, le-of-suc-le-suc, add-zero, zero-add, mul-suc}
+use native.Mathlib.Nat.{not-suc-le-zero, le-of-suc-le-suc, add-zero, zero-add, mul-suc, eq-or-lt-of-le}
 use native.Mathlib.Numerals.{add-one}
 use native.Mathlib.Omega.{arith}
 use lib.Dec.{eqb, leb, ltb}
 use lib.ListN.{length, replicate}
-use borrow.Author.Tests.{eqb-true, ltb-true, lt-ltb}
+use borrow.Author.Tests.{eqb-true, leb-true, ltb-true, lt-ltb}
 use Rattle.octets.specs.Choice.{both, either, one}
+use Rattle.octets.specs.Fold.{upTo}
 use Rattle.octets.specs.Search.{countIf, all}
 use Rattle.octets.proofs.ChoiceLaws.{both-left, both-right}
 use Rattle.kinds.specs.declared.Clock.{Clock}
@@ -18,9 +20,9 @@ use Rattle.kinds.specs.declared.Request.{Request}
 use Rattle.kinds.specs.declared.RowState.{RowState}
 use Rattle.kinds.specs.declared.RowState.the-variants.{Free, Fresh, Waiting, Active}
 use Rattle.sheet.specs.declared.rows.Owner.the-variants.{Seat}
-use Rattle.sheet.specs.Sheet.{farmCount, farmNo, quotaOf}
+use Rattle.sheet.specs.Sheet.{farmCount, farmNo, entityOf, quotaOf}
 use Rattle.sheet.specs.Rows.{ownerOf}
-use Rattle.sheet.specs.Test.{goodSheet}
+use Rattle.sheet.specs.Test.{goodSheet, headGood, farmGood, everyBelow}
 use Rattle.model.specs.FarmSheet.{FarmSheet, farmSheet, slotSheet}
 use Rattle.model.specs.Row.{checkLimit, freeRow, rowAt, isOpenState, isActiveState, isOpen, isActive}
 use Rattle.model.specs.Stream.{Taken}
@@ -31,11 +33,12 @@ use Rattle.model.specs.RuleTest.{goodFarm, everySeat, seatKeeps, headKee
 use Rattle.model.specs.Table.{Table, slot, goodFrom, goodTable, Call, whose, Outcome, movedTo, called, numberOf, itemsOf, tableOf}
 use Rattle.model.specs.History.{Made, fresh, stepOf, run}
 use Rattle.model.specs.Words.{Stands, Answered, isDone, takenOf, MustWait, acceptedTick, ticksIn, cuts, cutIn, entriesIn}
+use Rattle.model.proofs.Keeps.{GoodAll, fresh-good, run-good}
 use Rattle.model.proofs.Rank.{Within, now, later, bound, count}
 use Rattle.model.proofs.Due.{gone, waits, more-left, more-right, Due}
 use Rattle.model.proofs.DueCalls.{never-now}
 use Rattle.model.proofs.DueTable.{step-case, slot-in, slot-own, inside, Seen, own-seen, EndsBy, answer, cut, next, tickOf, DueIn, step-law}
-use Rattle.model.proofs.Join.{Opens, decide-ask, join-due, joins-last, joins-due}
+use Rattle.model.proofs.Join.{decide-ask, join-due, joins-last, joins-due}
 
 -- ---- whoever is due in n ticks is answered in every history with n accepted ticks and no cut
 
@@ -115,15 +118,30 @@ slot-open [] g i e = absurd (false≢true (sym (ap isOpen (free-new seatCount i)
 slot-open (x ∷ t) zero i e = omega arith
 slot-open (x ∷ t) (suc g) i e = omega (arith, slot-open t g i e)
 
--- ---- what this file takes from others, each by its statement
+-- rule 4 of the table is rule 4 of each of its slots
+pub slot-keeps : (s : List ℕ) (i : ℕ) (t : Table) (g : ℕ) → g < length t → GoodAll s i t → Good (slotSheet s (i + g)) (slot t g .farm)
+slot-keeps s i [] g h k = absurd (not-suc-le-zero h)
+slot-keeps s i (x ∷ t) zero h k = rw add-zero (k .0)
+slot-keeps s i (x ∷ t) (suc g) h k =
+    let p : suc i + g ≡ i + suc g = omega arith in
+    subst (λ (n : ℕ). Good (slotSheet s n) (slot t g .farm)) p (slot-keeps s (suc i) t g (le-of-suc-le-suc h) (k .1))
 
--- rule 4 as a test says what the rules say
-abbrev pub RulesHold : Type 0
-RulesHold = (own : FarmSheet) (f : Farm) → goodFarm own f ≡ true → Good own f
+-- ---- "quota q (1 to 8)", by the test of the sheet
 
--- "quota q (1 to 8)"
-abbrev pub SomePlace : Type 0
-SomePlace = (s : List ℕ) (g : ℕ) → goodSheet s ≡ true → g < farmCount s → 1 ≤ quotaOf s g
+below-true : (p : ℕ → Bool) (n i : ℕ) → i < n → everyBelow p n ≡ true → p i ≡ true
+unfolding everyBelow upTo
+below-true p zero i h e = absurd (not-suc-le-zero h)
+below-true p (suc n) i h e =
+    ⊎-elim (λ (z : suc i ≡ suc n). subst (λ (k : ℕ). p k ≡ true) (let y : n ≡ i = omega arith in y) (both-right (everyBelow p n) (p n) e))
+    (λ (l : suc i < suc n). below-true p n i (omega arith) (both-left (everyBelow p n) (p n) e)) (eq-or-lt-of-le h)
+
+some-place : (s : List ℕ) (g : ℕ) → goodSheet s ≡ true → g < farmCount s → 1 ≤ quotaOf s g
+unfolding goodSheet
+some-place s g e h =
+    let farm : farmGood s g ≡ true =
+        below-true (farmGood s) (farmCount s) g h
+        (both-left (everyBelow (farmGood s) (farmCount s)) _ (both-left _ _ (both-right (headGood s) _ e))) in
+    leb-true 1 (quotaOf s g) (both-left (leb 1 (quotaOf s g)) _ (both-right (ltb 0 (entityOf s g)) _ farm))
 
 -- ---- the call by which a request joins
 
@@ -179,26 +197,26 @@ module _ (s : List ℕ) (t : Table) (m : Made) (row g seat : ℕ) (q : Request) 
 
   -- ---- from a table that keeps the rules it is not answered by that very call
 
-  module _ (opens : Opens) (rules : RulesHold) (some : SomePlace) where
+  module _ (keeps : GoodAll s 0 t) where
     quota-some : 1 ≤ own .quota
     unfolding slotSheet farmSheet
-    quota-some = rw (lt-ltb g (farmCount s) (inside s g seat row q (w .owner))) (some s g (ok .goodSheetIs) (inside s g seat row q (w .owner)))
+    quota-some = rw (lt-ltb g (farmCount s) (inside s g seat row q (w .owner))) (some-place s g (ok .goodSheetIs) (inside s g seat row q (w .owner)))
 
     good-farm : Good own (held .farm)
-    good-farm = rules own (held .farm) (good-slot s t g has-slot (ok .goodTableIs))
+    good-farm = subst (λ (n : ℕ). Good (slotSheet s n) (held .farm)) (zero-add g) (slot-keeps s 0 t g has-slot keeps)
 
     -- THE PLACE: behind the line as it was.
     pub line-after : slot (tableOf t (stepOf s t m)) g .farm .line ≡ held .farm .line ++ seat ∷ []
     line-after =
         ap (λ (o : Outcome). slot (tableOf t o) g .farm .line) is-taken
         ∙ ap (λ (h : Held). h .farm .line) (slot-own t g (tookBytes own held seat took) has-slot)
-        ∙ joins-last own (held .farm) seat took (w .size) q (w .check) (fresh-row .0) (fresh-row .1) (w .whole) (w .reads) (w .waits) quota-some good-farm opens
+        ∙ joins-last own (held .farm) seat took (w .size) q (w .check) (fresh-row .0) (fresh-row .1) (w .whole) (w .reads) (w .waits) quota-some good-farm
 
     due-after : (n : ℕ) → checkLimit * suc (length (held .farm .line)) ≤ n → Due seat q n (slot (tableOf t (stepOf s t m)) g .farm)
     due-after n h =
         subst (λ (x : Held). Due seat q n (x .farm))
         (sym (ap (λ (o : Outcome). slot (tableOf t o) g) is-taken ∙ slot-own t g (tookBytes own held seat took) has-slot))
-        (joins-due own (held .farm) seat took (w .size) q (w .check) (fresh-row .0) (fresh-row .1) (w .whole) (w .reads) (w .waits) quota-some good-farm opens n h)
+        (joins-due own (held .farm) seat took (w .size) q (w .check) (fresh-row .0) (fresh-row .1) (w .whole) (w .reads) (w .waits) quota-some good-farm n h)
 
 -- ---- THE THEOREMS
 
@@ -232,22 +250,31 @@ answered-from s t m row g seat k q w e ms c h =
     by (waits d) =
         more-right (itemsOf (stepOf s t m)) (due-answered s g seat row q (w .owner) (tableOf t (stepOf s t m)) ms (checkLimit * k) d c h)
 
-module _ (opens : Opens) (rules : RulesHold) (some : SomePlace) where
-  -- A request that must wait stands, after its call, at the end of its farm's line as it was: it joins at place k = length + 1, and that
-  -- call does not answer it.
-  pub joins-at : (s : List ℕ) (t : Table) (m : Made) (row g seat : ℕ) (q : Request) → MustWait s t m row g seat q
-      → slot (tableOf t (stepOf s t m)) g .farm .line ≡ slot t g .farm .line ++ seat ∷ []
-  joins-at s t m row g seat q w = line-after s t m row g seat q w opens rules some
+-- From a table that keeps the rules: a request that must wait stands, after its call, at the end of its farm's line as it was. It joins at
+-- place k, k - 1 being the length of the line, and that call does not answer it.
+pub joins-at : (s : List ℕ) (t : Table) (m : Made) (row g seat : ℕ) (q : Request) → GoodAll s 0 t → MustWait s t m row g seat q
+    → slot (tableOf t (stepOf s t m)) g .farm .line ≡ slot t g .farm .line ++ seat ∷ []
+joins-at s t m row g seat q keeps w = line-after s t m row g seat q w keeps
 
-  -- DEMAND 3. After any calls from a fresh table, under one sheet, with no second start, a readable activation request that must wait for an
-  -- alive check joins its farm's line at place k. Whatever calls follow, if they hold checkLimit * k accepted ticks, and its own connection
-  -- and its farm's link are not lost among them, then its answer is among their entries. So it has its answer by the accepted tick number
-  -- checkLimit * k after it joined: take for `ms` the calls up to that tick.
-  pub must-be-answered : (s : List ℕ) (rooms : List (List (List ℕ))) (past : List Made) (m : Made) (row g seat k : ℕ) (q : Request)
-      → MustWait s (run s (fresh rooms) past) m row g seat q → k ≡ length (slot (run s (fresh rooms) past) g .farm .line) + 1
-      → let joined = tableOf (run s (fresh rooms) past) (stepOf s (run s (fresh rooms) past) m) in
-      (ms : List Made) → cutIn row g s joined ms ≡ false → checkLimit * k ≤ ticksIn s joined ms → Answered row (q .address) (entriesIn s joined ms)
-  must-be-answered s rooms past m row g seat k q w e ms c h =
-      let t : Table = run s (fresh rooms) past in
-      due-answered s g seat row q (w .owner) (tableOf t (stepOf s t m)) ms (checkLimit * k)
-      (due-after s t m row g seat q w opens rules some (checkLimit * k) (rw (e ∙ add-one (length (slot t g .farm .line))) (omega arith))) c h
+-- DEMAND 3. After any calls from a fresh table, under one sheet, with no second start, a readable activation request that must wait for an
+-- alive check joins its farm's line at place k. Whatever calls follow, if they hold checkLimit * k accepted ticks, and its own connection
+-- and its farm's link are not lost among them, then its answer is among their entries. So it has its answer by the accepted tick number
+-- checkLimit * k after it joined: take for `ms` the calls up to that tick.
+pub must-be-answered : (s : List ℕ) (rooms : List (List (List ℕ))) (past : List Made) (m : Made) (row g seat k : ℕ) (q : Request)
+    → MustWait s (run s (fresh rooms) past) m row g seat q → k ≡ length (slot (run s (fresh rooms) past) g .farm .line) + 1
+    → let joined = tableOf (run s (fresh rooms) past) (stepOf s (run s (fresh rooms) past) m) in
+    (ms : List Made) → cutIn row g s joined ms ≡ false → checkLimit * k ≤ ticksIn s joined ms → Answered row (q .address) (entriesIn s joined ms)
+must-be-answered s rooms past m row g seat k q w e ms c h =
+    let t : Table = run s (fresh rooms) past in
+    due-answered s g seat row q (w .owner) (tableOf t (stepOf s t m)) ms (checkLimit * k)
+    (due-after s t m row g seat q w (run-good s (fresh rooms) past (fresh-good s 0 rooms)) (checkLimit * k)
+    (rw (e ∙ add-one (length (slot t g .farm .line))) (omega arith)))
+    c h
+
+-- and at that place it joins
+pub joins-line : (s : List ℕ) (rooms : List (List (List ℕ))) (past : List Made) (m : Made) (row g seat : ℕ) (q : Request)
+    → MustWait s (run s (fresh rooms) past) m row g seat q
+    → slot (tableOf (run s (fresh rooms) past) (stepOf s (run s (fresh rooms) past) m)) g .farm .line
+    ≡ slot (run s (fresh rooms) past) g .farm .line ++ seat ∷ []
+joins-line s rooms past m row g seat q w =
+    joins-at s (run s (fresh rooms) past) m row g seat q (run-good s (fresh rooms) past (fresh-good s 0 rooms)) w

@@ -33,6 +33,7 @@ use Rattle.model.specs.Words.{Stands, first, behind, Answered, answers}
 use Rattle.model.proofs.Cases.{pick-case, split}
 use Rattle.model.proofs.Rows.{row-other}
 use Rattle.model.proofs.Seats.{then-items, then-farm, each-keeps, closings-keep, closed-rows}
+use Rattle.model.proofs.Settling.{advanced-farm, Stands as FirstStands, stands, first-stands}
 
 -- ---- answers among entries
 
@@ -110,25 +111,16 @@ answered-row own i address code f k n =
 
 -- ---- no check asks a row that waits
 
--- where the first stands that passes
+-- the first row that passes does pass, and is one of the rows
 pub record Passes (p : Row → Bool) (rows : List Row) (i : ℕ) : Type 0 where
   pub within : i < length rows
   pub passes : p (rowAt rows i) ≡ true
 
-first-from : (p : Row → Bool) (rows : List Row) (k s : ℕ) → firstAt p k rows ≡ At s → (i : ℕ) × (s ≡ k + i) × Passes p rows i
-unfolding firstAt
-first-from p [] k s e = absurd (let z : _≡_ {A = ℕ} 0 1 = cc in omega arith)
-first-from p (x ∷ l) k s e =
-    pick-case (λ o. o ≡ At s → (i : ℕ) × (s ≡ k + i) × Passes p (x ∷ l) i) (p x) (At k) (firstAt p (suc k) l)
-    (λ t z. let y : k ≡ s = cc in (0, omega arith, record { within = omega arith; passes = t }))
-    (λ t z. let r = first-from p l (suc k) s z in
-    (suc (r .0), omega (arith, r .1), record { within = omega (arith, r .2 .within); passes = r .2 .passes })) e
-
 pub first-at : (p : Row → Bool) (rows : List Row) (s : ℕ) → firstAt p 0 rows ≡ At s → Passes p rows s
-first-at p rows s e =
-    let r = first-from p rows 0 s e in
-    let z : r .0 ≡ s = omega (arith, r .1) in
-    subst (Passes p rows) z (r .2)
+first-at p rows s e = by (first-stands p freeRow rows s 0 e)
+  where
+    by : FirstStands p freeRow rows s 0 → Passes p rows s
+    by (stands i z h t) = let y : i ≡ s = omega arith in subst (Passes p rows) y (record { within = h; passes = t })
 
 -- the check does not ask that seat, as long as its row waits
 Spares : ℕ → Check → Type 0
@@ -161,37 +153,12 @@ spared seat q check marks r n w =
 
 -- ---- the next head
 
--- the check of a new head starts: whatever the farm was, the line is the rest and the clock is 0
-pub record Anew (rest : List ℕ) (rows : List Row) (f : Farm) : Type 0 where
-  pub line : f .line ≡ rest
-  pub clock : f .clock .ticks ≡ 0
-  pub same : f .rows ≡ rows
-
-asking-keeps : (own : FarmSheet) (P : Farm → Type 0) (d : Decision) (f : Farm) → P f → P (asking own d f .farm)
-unfolding askedIf
-asking-keeps own P (Now code) f p = p
-asking-keeps own P (Ask check) f p =
-    each-keeps (askedIf own check) f P p
-    (λ i x q. pick-case (λ (e : Done). P (e .farm)) (asksIt check i (rowAt (x .rows) i)) (does x (says own i AliveCheck ∷ [])) (quietly x) (λ e. q) (λ e. q))
-
-pub advanced-anew : (own : FarmSheet) (rest : List ℕ) (f : Farm) → Anew rest (f .rows) (advanced own rest f .farm)
-unfolding advanced started
-advanced-anew own [] f = record { line = refl; clock = refl; same = refl }
-advanced-anew own (head ∷ rest) f =
-    asking-keeps own (Anew (head ∷ rest) (f .rows)) (socketRules own (f .rows) (wanted (rowAt (f .rows) head))) (cleared (withLine f (head ∷ rest)))
-    (record { line = refl; clock = refl; same = refl })
-
+-- its check starts: whatever the farm was, the line is the rest and the clock is 0
 pub advanced-near : (own : FarmSheet) (seat : ℕ) (q : Request) (n : ℕ) (rest : List ℕ) (f : Farm) (j : ℕ) → Stands seat rest j
     → checkLimit * suc j ≤ n → Asks seat q f → Near seat q n (advanced own rest f .farm)
 advanced-near own seat q n rest f j b w a =
-    let r : Anew rest (f .rows) (advanced own rest f .farm) = advanced-anew own rest f in
-    record {
-      place = j;
-      at = subst (λ (x : List ℕ). Stands seat x j) (sym (r .line)) b;
-      runs = omega (arith, r .clock);
-      within = omega (arith, r .clock, mul-suc checkLimit j);
-      asks = subst (λ (x : List Row). rowAt x seat .state ≡ Waiting q) (sym (r .same)) a;
-    }
+    rw (advanced-farm own rest f)
+    (record { place = j; at = b; runs = omega arith; within = omega (arith, mul-suc checkLimit j); asks = a })
 
 -- ---- settling
 
@@ -234,7 +201,7 @@ module _ (own : FarmSheet) (seat : ℕ) (q : Request) (n : ℕ) where
       by zero (first e) w ne = absurd (ne (sym e))
       by (suc j) (behind b) w ne =
           then-after {P = Lined rest} (andThen d (advanced own rest)) next
-          (waits (record { isLine = advanced-anew own rest (d .farm) .line; near = advanced-near own seat q n rest (d .farm) j b w (kept ne) }))
+          (waits (record { isLine = ap (λ (f : Farm). f .line) (advanced-farm own rest (d .farm)); near = advanced-near own seat q n rest (d .farm) j b w (kept ne) }))
           ih
 
   serve-due : (head : ℕ) (rest : List ℕ) (f : Farm) (v : HeadVerdict) (next : Farm → Done) → f .line ≡ head ∷ rest → (d : Near seat q n f)

@@ -35,7 +35,11 @@ use Rattle.model.specs.Rule.{times, HeadKeeps, Good}
 use Rattle.model.specs.Words.{Stands, first, behind}
 use Rattle.model.proofs.Cases.{pick-case, unless-case}
 use Rattle.model.proofs.Rows.{row-set, row-same, row-other, open-in, count-same}
-use Rattle.model.proofs.Due.{waits, then-after, Near, Due, Ends, advanced-anew, advanced-near, settle-due}
+use Rattle.model.proofs.Settling.{advanced-farm, limit-positive, started-open}
+use Rattle.model.proofs.CalmRows.{Alike, SameAsked, same-asked}
+use Rattle.model.proofs.CalmCheck.{ready-of, same-check, verdict-same}
+use Rattle.model.proofs.CalmChange.{apart}
+use Rattle.model.proofs.Due.{waits, then-after, Near, Due, Ends, advanced-near, settle-due}
 
 -- ---- a row that is not active, before and after a store: no rule on the line sees the difference
 
@@ -43,53 +47,16 @@ record Idle (r : Row) : Type 0 where
   active : isActive r ≡ false
   address : (a : ℕ) → activeAs a r ≡ false
 
-first-set : (p : Row → Bool) (rows : List Row) (i : ℕ) (x : Row) → p x ≡ p (rowAt rows i) → (k : ℕ) → firstAt p k (set rows i x) ≡ firstAt p k rows
-unfolding firstAt
-first-set p [] i x e k = refl
-first-set p (y ∷ ys) zero x e k = rw e refl
-first-set p (y ∷ ys) (suc i) x e k = ap (pick (p y) _) (first-set p ys i x e (suc k))
+-- a test that neither the old row nor the new one passes
+idle-alike : (p : Row → Bool) (rows : List Row) (i : ℕ) (x : Row) → p (rowAt rows i) ≡ false → p x ≡ false → Alike p rows (set rows i x)
+idle-alike p rows i x was is k =
+    row-set rows i k x (λ y. p y ≡ p (rowAt rows k)) (λ e h. is ∙ sym was ∙ ap (λ (j : ℕ). p (rowAt rows j)) (sym e)) refl
 
-module _ (rows : List Row) (i : ℕ) (x : Row) (was : Idle (rowAt rows i)) (is : Idle x) where
-  idle-rules : (own : FarmSheet) (a : ℕ) → socketRules own (set rows i x) a ≡ socketRules own rows a
-  unfolding socketRules
-  idle-rules own a =
-      rw (first-set (activeAs a) rows i x (is .address a ∙ sym (was .address a)) 0) (by (firstAt (activeAs a) 0 rows))
-    where
-      by : (o : Found) → byHolder own (set rows i x) o ≡ byHolder own rows o
-      by (At s) = refl
-      by Nothing = rw (count-same isActive rows i x (is .active ∙ sym (was .active))) refl
-
-  idle-active : (k : ℕ) → isActive (rowAt (set rows i x) k) ≡ isActive (rowAt rows k)
-  idle-active k =
-      row-set rows i k x (λ y. isActive y ≡ isActive (rowAt rows k))
-      (λ e h. is .active ∙ sym (was .active) ∙ ap (λ (j : ℕ). isActive (rowAt rows j)) (sym e)) refl
-
-all-same : (b c : ℕ → Bool) → ((i : ℕ) → b i ≡ c i) → (n : ℕ) → upTo (λ i ok. pick (b i) false ok) true n ≡ upTo (λ i ok. pick (c i) false ok) true n
-unfolding upTo
-all-same b c e zero = refl
-all-same b c e (suc n) = rw (e n, all-same b c e n) refl
-
-answered-same : (check : Check) (marks : List Bool) (rows new : List Row) → ((i : ℕ) → isActive (rowAt new i) ≡ isActive (rowAt rows i))
-    → allAnswered check marks new ≡ allAnswered check marks rows
-unfolding allAnswered
-answered-same check marks rows new e =
-    all-same (λ i. isSilent check marks i (rowAt new i)) (λ i. isSilent check marks i (rowAt rows i)) (λ i. by check i) seatCount
-  where
-    by : (k : Check) (i : ℕ) → isSilent k marks i (rowAt new i) ≡ isSilent k marks i (rowAt rows i)
-    by (One s) i = refl
-    by All i = rw (e i) refl
-
--- the head's verdict, with the same clock and marks
-verdict-same : (own : FarmSheet) (f g : Farm) (head : ℕ) → wanted (rowAt (g .rows) head) ≡ wanted (rowAt (f .rows) head)
-    → ((a : ℕ) → socketRules own (g .rows) a ≡ socketRules own (f .rows) a) → ((i : ℕ) → isActive (rowAt (g .rows) i) ≡ isActive (rowAt (f .rows) i))
-    → g .clock ≡ f .clock → g .marks ≡ f .marks → headVerdict own g head ≡ headVerdict own f head
-unfolding headVerdict
-verdict-same own f g head w s a c m =
-    rw (w, s (wanted (rowAt (f .rows) head))) (by (socketRules own (f .rows) (wanted (rowAt (f .rows) head))))
-  where
-    by : (d : Decision) → verdictBy g d ≡ verdictBy f d
-    by (Now code) = refl
-    by (Ask check) = rw (c, m, answered-same check (f .marks) (f .rows) (g .rows) a) refl
+module _ (own : FarmSheet) (rows : List Row) (i : ℕ) (x : Row) (was : Idle (rowAt rows i)) (is : Idle x) where
+  idle-asked : (a : ℕ) → SameAsked own rows (set rows i x) a
+  idle-asked a =
+      same-asked own rows (set rows i x) a (idle-alike isActive rows i x (was .active) (is .active))
+      (idle-alike (activeAs a) rows i x (was .address a) (is .address a))
 
 -- ---- the rules for a row that is not active
 
@@ -126,12 +93,6 @@ pub stands-end : (seat : ℕ) (l : List ℕ) → Stands seat (l ++ seat ∷ []) 
 stands-end seat [] = first refl
 stands-end seat (x ∷ l) = behind (stands-end seat l)
 
--- what is needed of a check that has just started: with clock 0 and no marks it is undecided, for it asks some row
-abbrev pub Opens : Type 0
-Opens =
-    (own : FarmSheet) → 1 ≤ own .quota → (f : Farm) → length (f .rows) ≡ seatCount → (head : ℕ) (check : Check)
-    → socketRules own (f .rows) (wanted (rowAt (f .rows) head)) ≡ Ask check → headVerdict own (started own f .farm) head ≡ Pending
-
 -- ---- the call by which a fresh row gives the last byte of a request that must wait
 
 module _ (own : FarmSheet) (f : Farm) (seat : ℕ) (t : Taken) (size : ℕ) (request : Request) (check : Check) (age : Clock)
@@ -158,7 +119,7 @@ module _ (own : FarmSheet) (f : Farm) (seat : ℕ) (t : Taken) (size : ℕ) (req
   still-asks : decide own (set (f .rows) seat after) seat request ≡ Ask check
   still-asks =
       decide-fresh own (set (f .rows) seat after) seat request age fresh-still
-      ∙ rw (idle-rules (f .rows) seat after was is own (request .address)) (sym (decide-fresh own (f .rows) seat request age fresh))
+      ∙ rw (idle-asked own (f .rows) seat after was is (request .address) .check) (sym (decide-fresh own (f .rows) seat request age fresh))
       ∙ ask
 
   -- so the row joins
@@ -188,7 +149,7 @@ module _ (own : FarmSheet) (f : Farm) (seat : ℕ) (t : Taken) (size : ℕ) (req
       pick-case (λ (d : Done). Due seat request n (d .farm)) (isEmpty (f .line)) _ _
       (λ e. record {
         near = advanced-near own seat request n (f .line ++ seat ∷ []) at-end (length (f .line)) (stands-end seat (f .line)) w waits-there;
-        running = omega (arith, advanced-anew own (f .line ++ seat ∷ []) at-end .clock);
+        running = rw (advanced-farm own (f .line ++ seat ∷ []) at-end) limit-positive;
       })
       (λ e. record {
         near =
@@ -206,7 +167,7 @@ module _ (own : FarmSheet) (f : Farm) (seat : ℕ) (t : Taken) (size : ℕ) (req
   unfolding joined heard advanced
   joined-line =
       pick-case (λ (d : Done). d .farm .line ≡ f .line ++ seat ∷ []) (isEmpty (f .line)) _ _
-      (λ e. advanced-anew own (f .line ++ seat ∷ []) at-end .line) (λ e. refl)
+      (λ e. ap (λ (x : Farm). x .line) (advanced-farm own (f .line ++ seat ∷ []) at-end)) (λ e. refl)
 
   -- after the whole call it is answered or due
   pub join-due : (n : ℕ) → f .clock .ticks < checkLimit → checkLimit * suc (length (f .line)) ≤ n
@@ -217,43 +178,31 @@ module _ (own : FarmSheet) (f : Farm) (seat : ℕ) (t : Taken) (size : ℕ) (req
 
   -- ---- from a farm that keeps the rules, it is not answered by that call: it stands at the end of the line as it was
 
-  module _ (quota : 1 ≤ own .quota) (good : Good own f) (opens : Opens) where
+  module _ (quota : 1 ≤ own .quota) (good : Good own f) where
     waits-is : Idle (waitingRow request)
     waits-is = record { active = refl; address = λ a. refl }
 
     was-then : Idle (rowAt (set (f .rows) seat after) seat)
     was-then = record { active = ap isActiveState fresh-still; address = λ a. ap (activeAsState a) fresh-still }
 
-    same-rules : (a : ℕ) → socketRules own (at-end .rows) a ≡ socketRules own (f .rows) a
+    same : (a : ℕ) → SameAsked own (f .rows) (at-end .rows) a
     unfolding heard
-    same-rules a =
-        idle-rules (set (f .rows) seat after) seat (waitingRow request) was-then waits-is own a ∙ idle-rules (f .rows) seat after was is own a
-
-    same-active : (i : ℕ) → isActive (rowAt (at-end .rows) i) ≡ isActive (rowAt (f .rows) i)
-    unfolding heard
-    same-active i =
-        idle-active (set (f .rows) seat after) seat (waitingRow request) was-then waits-is i ∙ idle-active (f .rows) seat after was is i
+    same a =
+        let x : SameAsked own (f .rows) (set (f .rows) seat after) a = idle-asked own (f .rows) seat after was is a in
+        let y : SameAsked own (set (f .rows) seat after) (at-end .rows) a =
+            idle-asked own (set (f .rows) seat after) seat (waitingRow request) was-then waits-is a in
+        record { check = y .check ∙ x .check; asked = λ i. y .asked i ∙ x .asked i }
 
     -- the row itself asks for its address
     need : socketRules own (at-end .rows) (wanted (rowAt (at-end .rows) seat)) ≡ Ask check
     unfolding heard
     need =
         rw is-there
-        (same-rules (request .address) ∙ decide-ask own (f .rows) seat request check ask .1)
+        (same (request .address) .check ∙ decide-ask own (f .rows) seat request check ask .1)
 
     many : length (at-end .rows) ≡ seatCount
     unfolding heard
     many = length-set (set (f .rows) seat after) seat (waitingRow request) ∙ length-set (f .rows) seat after ∙ good .seats
-
-    -- a head that waits is another row
-    apart : (head : ℕ) (rest : List ℕ) → f .line ≡ head ∷ rest → head ≡ seat → ⊥
-    unfolding countIf
-    apart head rest e q =
-        let w : one (isWaiting (rowAt (f .rows) head)) ≡ times head (head ∷ rest) = sym (good .lined head) ∙ ap (times head) e in
-        let n : isWaiting (rowAt (f .rows) head) ≡ false = rw q (ap isWaitingState fresh) in
-        let z : one (isWaiting (rowAt (f .rows) head)) ≡ 0 = ap one n in
-        let y : one (eqb head head) ≡ 1 = ap one (eq-eqb head head refl) in
-        omega arith
 
     same-wanted : (head : ℕ) → (head ≡ seat → ⊥) → wanted (rowAt (at-end .rows) head) ≡ wanted (rowAt (f .rows) head)
     unfolding heard
@@ -279,13 +228,15 @@ module _ (own : FarmSheet) (f : Farm) (seat : ℕ) (t : Taken) (size : ℕ) (req
         by : (line : List ℕ) → f .line ≡ line → HeadKeeps own f line → settle own (joins .farm) ≡ quietly (joins .farm)
         by [] e k =
             rw (joins-first e)
-            (still (advanced own (seat ∷ []) at-end .farm) seat [] (advanced-anew own (seat ∷ []) at-end .line)
-            (opens own quota (withLine at-end (seat ∷ [])) many seat check need))
+            (still (advanced own (seat ∷ []) at-end .farm) seat [] (ap (λ (x : Farm). x .line) (advanced-farm own (seat ∷ []) at-end))
+            (started-open own quota (withLine at-end (seat ∷ [])) many seat check need))
         by (head ∷ rest) e k =
             let g : Farm = withLine at-end (head ∷ rest ++ seat ∷ []) in
             rw (joins-behind head rest e)
             (still g head (rest ++ seat ∷ []) refl
-            (verdict-same own f g head (same-wanted head (apart head rest e)) same-rules same-active refl refl ∙ k))
+            (verdict-same own f g head
+            (same-check own f g head (same-wanted head (apart (ready-of good) head rest e seat (ap isWaitingState fresh))) (same (wanted (rowAt (f .rows) head))))
+            refl refl ∙ k))
 
     -- so the call does nothing but join
     pub call-joins : bytesDone own seat t f ≡ joins
