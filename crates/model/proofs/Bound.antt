@@ -47,7 +47,8 @@ either-none true b e = absurd (false≢true (sym e))
 either-none false b e = (refl, e)
 
 module _ (s : List ℕ) (g seat row : ℕ) (q : Request) (owner : ownerOf s row ≡ Seat (farmNo g) seat) where
-  same-count : (t : Table) (ms : List Made) → count (next s g seat row q owner) (tickOf s g seat row q owner) (EndsBy s g seat row q owner) t ms ≡ ticksIn s t ms
+  same-count : (t : Table) (ms : List Made)
+      → count (next s g seat row q owner) (tickOf s g seat row q owner) (EndsBy s g seat row q owner) t ms ≡ ticksIn s t ms
   unfolding ticksIn
   same-count t [] = refl
   same-count t (m ∷ ms) = ap (one (acceptedTick s t m) +_) (same-count (tableOf t (stepOf s t m)) ms)
@@ -139,8 +140,8 @@ some-place : (s : List ℕ) (g : ℕ) → goodSheet s ≡ true → g < farmCount
 unfolding goodSheet
 some-place s g e h =
     let farm : farmGood s g ≡ true =
-        below-true (farmGood s) (farmCount s) g h
-        (both-left (everyBelow (farmGood s) (farmCount s)) _ (both-left _ _ (both-right (headGood s) _ e))) in
+    below-true (farmGood s) (farmCount s) g h
+    (both-left (everyBelow (farmGood s) (farmCount s)) _ (both-left _ _ (both-right (headGood s) _ e))) in
     leb-true 1 (quotaOf s g) (both-left (leb 1 (quotaOf s g)) _ (both-right (ltb 0 (entityOf s g)) _ farm))
 
 -- ---- the call by which a request joins
@@ -210,18 +211,21 @@ module _ (s : List ℕ) (t : Table) (m : Made) (row g seat : ℕ) (q : Request) 
     line-after =
         ap (λ (o : Outcome). slot (tableOf t o) g .farm .line) is-taken
         ∙ ap (λ (h : Held). h .farm .line) (slot-own t g (tookBytes own held seat took) has-slot)
-        ∙ joins-last own (held .farm) seat took (w .size) q (w .check) (fresh-row .0) (fresh-row .1) (w .whole) (w .reads) (w .waits) quota-some good-farm
+        ∙ joins-last own (held .farm) seat took (w .size) q (w .check) (fresh-row .0) (fresh-row .1) (w .whole) (w .reads) (w .waits)
+        quota-some good-farm
 
     due-after : (n : ℕ) → checkLimit * suc (length (held .farm .line)) ≤ n → Due seat q n (slot (tableOf t (stepOf s t m)) g .farm)
     due-after n h =
         subst (λ (x : Held). Due seat q n (x .farm))
         (sym (ap (λ (o : Outcome). slot (tableOf t o) g) is-taken ∙ slot-own t g (tookBytes own held seat took) has-slot))
-        (joins-due own (held .farm) seat took (w .size) q (w .check) (fresh-row .0) (fresh-row .1) (w .whole) (w .reads) (w .waits) quota-some good-farm n h)
+        (joins-due own (held .farm) seat took (w .size) q (w .check) (fresh-row .0) (fresh-row .1) (w .whole) (w .reads) (w .waits)
+        quota-some good-farm n h)
 
 -- ---- THE THEOREMS
 
 -- From any table that keeps the rules: a row that waits with a request, and stands in its farm's line with k before it, that is at place
--- k + 1, has its answer among the entries of any calls that hold checkLimit * (k + 1) accepted ticks and no loss of its connection or of its farm's link.
+-- k + 1, has its answer among the entries of any calls that hold checkLimit * (k + 1) accepted ticks and no loss of its connection or of
+-- its farm's link.
 pub answered-by : (s : List ℕ) (t : Table) (row g seat k : ℕ) (q : Request) → goodTable s t ≡ true → ownerOf s row ≡ Seat (farmNo g) seat
     → Stands seat (slot t g .farm .line) k → rowAt (slot t g .farm .rows) seat .state ≡ Waiting q
     → (ms : List Made) → cutIn row g s t ms ≡ false → checkLimit * (k + 1) ≤ ticksIn s t ms
@@ -238,7 +242,8 @@ answered-by s t row g seat k q good owner a x ms c h =
 -- From any table at all: with the call m, which is done, a row gives the last byte of a request that must wait, and there are k - 1 in its
 -- farm's line. Whatever calls follow, if they hold checkLimit * k accepted ticks and no loss of its connection or of its farm's link, the
 -- answer to the row is among the entries from that call on.
-pub answered-from : (s : List ℕ) (t : Table) (m : Made) (row g seat k : ℕ) (q : Request) → MustWait s t m row g seat q → k ≡ length (slot t g .farm .line) + 1
+pub answered-from : (s : List ℕ) (t : Table) (m : Made) (row g seat k : ℕ) (q : Request) → MustWait s t m row g seat q
+    → k ≡ length (slot t g .farm .line) + 1
     → (ms : List Made) → cutIn row g s (tableOf t (stepOf s t m)) ms ≡ false → checkLimit * k ≤ ticksIn s (tableOf t (stepOf s t m)) ms
     → Answered row (q .address) (entriesIn s t (m ∷ ms))
 unfolding entriesIn

@@ -15,7 +15,6 @@ use Rattle.octets.specs.declared.Found.the-variants.{At, Nothing}
 use Rattle.octets.specs.Search.{firstAt, countIf}
 use Rattle.kinds.specs.declared.Clock.{Clock}
 use Rattle.kinds.specs.declared.Item.{Item}
-use Rattle.kinds.specs.declared.Reply.the-variants.{AliveCheck}
 use Rattle.kinds.specs.declared.Request.{Request}
 use Rattle.kinds.specs.declared.Row.{Row}
 use Rattle.kinds.specs.declared.RowState.the-variants.{Waiting}
@@ -27,12 +26,12 @@ use Rattle.kinds.specs.declared.HeadVerdict.{HeadVerdict}
 use Rattle.kinds.specs.declared.HeadVerdict.the-variants.{Pending, Answer, RunOut}
 use Rattle.model.specs.FarmSheet.{FarmSheet}
 use Rattle.model.specs.Row.{checkLimit, freeRow, rowAt, wantedBy, isActiveState, activeAsState, isActive, activeAs, wanted, activeRow}
-use Rattle.model.specs.Farm.{Farm, Done, does, quietly, andThen, withLine, says, closedWhere}
-use Rattle.model.specs.Line.{accepted, byHolder, socketRules, asks as asksIt, isSilent, allAnswered, refusalOf, askedIf, asking, cleared, started, advanced, answered, verdictBy, headVerdict, serve, settleLine, settle}
+use Rattle.model.specs.Farm.{Farm, Done, andThen, closedWhere}
+use Rattle.model.specs.Line.{accepted, byHolder, socketRules, asks as asksIt, isSilent, allAnswered, refusalOf, advanced, answered, verdictBy, headVerdict, serve, settleLine, settle}
 use Rattle.model.specs.Words.{Stands, first, behind, Answered, answers}
 use Rattle.model.proofs.Cases.{pick-case, split}
 use Rattle.model.proofs.Rows.{row-other}
-use Rattle.model.proofs.Seats.{then-items, then-farm, each-keeps, closings-keep, closed-rows}
+use Rattle.model.proofs.Seats.{then-items, then-farm, closings-keep, closed-rows}
 use Rattle.model.proofs.Settling.{advanced-farm, Stands as FirstStands, stands, first-stands}
 
 -- ---- answers among entries
@@ -136,7 +135,9 @@ rules-spare own rows a seat q check w = by (firstAt (activeAs a) 0 rows) refl
     by (At s) o e =
         let z : One s ≡ check = cc in
         subst (Spares seat) z
-        (λ x. false≢true (sym (ap (activeAsState a) w) ∙ subst (λ (i : ℕ). activeAs a (rowAt rows i) ≡ true) x (first-at (activeAs a) rows s o .passes)))
+        (λ x.
+        let t : activeAs a (rowAt rows seat) ≡ true = subst (λ (i : ℕ). activeAs a (rowAt rows i) ≡ true) x (first-at (activeAs a) rows s o .passes) in
+        false≢true (sym (ap (activeAsState a) w) ∙ t))
     by Nothing o e =
         pick-case (λ d. d ≡ Ask check → Spares seat check) (leb (own .quota) (countIf isActive rows)) (Ask All) (Now accepted)
         (λ _ z. let y : All ≡ check = cc in subst (Spares seat) y tt) (λ _ z. absurd (let y : _≡_ {A = ℕ} 0 1 = cc in omega arith)) e
@@ -201,7 +202,11 @@ module _ (own : FarmSheet) (seat : ℕ) (q : Request) (n : ℕ) where
       by zero (first e) w ne = absurd (ne (sym e))
       by (suc j) (behind b) w ne =
           then-after {P = Lined rest} (andThen d (advanced own rest)) next
-          (waits (record { isLine = ap (λ (f : Farm). f .line) (advanced-farm own rest (d .farm)); near = advanced-near own seat q n rest (d .farm) j b w (kept ne) }))
+          (waits
+          (record {
+            isLine = ap (λ (f : Farm). f .line) (advanced-farm own rest (d .farm));
+            near = advanced-near own seat q n rest (d .farm) j b w (kept ne);
+          }))
           ih
 
   serve-due : (head : ℕ) (rest : List ℕ) (f : Farm) (v : HeadVerdict) (next : Farm → Done) → f .line ≡ head ∷ rest → (d : Near seat q n f)
@@ -220,7 +225,10 @@ module _ (own : FarmSheet) (seat : ℕ) (q : Request) (n : ℕ) where
       closings-keep own (isSilent check (f .marks)) (Asks seat q) f (d .asks)
       (λ i x t p. rw (closed-rows own i x)
       (rw (row-other (x .rows) i seat freeRow
-      (λ z. false≢true (sym (spared seat q check (f .marks) (rowAt (x .rows) seat) (w .1) p) ∙ subst (λ (j : ℕ). isSilent check (f .marks) j (rowAt (x .rows) j) ≡ true) (sym z) t))) p))
+      (λ z.
+      let s : isSilent check (f .marks) seat (rowAt (x .rows) seat) ≡ true =
+      subst (λ (j : ℕ). isSilent check (f .marks) j (rowAt (x .rows) j) ≡ true) (sym z) t in
+      false≢true (sym (spared seat q check (f .marks) (rowAt (x .rows) seat) (w .1) p) ∙ s))) p))
       in
       front head rest (andThen e a) next (d .place) (subst (λ (x : List ℕ). Stands seat x (d .place)) l (d .at)) (w .0)
       (λ z. rw (then-items e a) (more-right (e .items) (rw z (rw (ap wantedBy (d .asks)) (answer-in own seat (q .address) accepted (e .farm))))))

@@ -258,7 +258,8 @@ module _ (own : FarmSheet) (seat : ℕ) (q : Request) (n : ℕ) where
       (waits
       (closings-keep own (λ i r. atLimit r) (Near seat q n) (aged (clockRun (f .line) f)) (tick-near f d)
       (λ i x t e. near-same x (closed own i x .farm)
-      (gone-still own seat i (λ z. false≢true (sym (ap atLimitState (e .asks)) ∙ subst (λ (j : ℕ). atLimit (rowAt (x .rows) j) ≡ true) (sym z) t)) x) e)))
+      (gone-still own seat i
+      (λ z. false≢true (sym (ap atLimitState (e .asks)) ∙ subst (λ (j : ℕ). atLimit (rowAt (x .rows) j) ≡ true) (sym z) t)) x) e)))
       (settle-due own seat q n)
 
 -- ---- a call of the farm
@@ -272,7 +273,8 @@ abbrev pub Moved : FarmSheet → ℕ → Request → ℕ → Held → Move → T
 Moved own seat q n h m = Ends own seat q n (doneBy h m)
 
 -- the first free row of the farm's is not one that waits
-free-other : (rows : List Row) (k seat i : ℕ) (q : Request) → rowAt rows seat .state ≡ Waiting q → firstAt isFree 0 (take k rows) ≡ At i → seat ≡ i → ⊥
+free-other : (rows : List Row) (k seat i : ℕ) (q : Request) → rowAt rows seat .state ≡ Waiting q → firstAt isFree 0 (take k rows) ≡ At i
+    → seat ≡ i → ⊥
 free-other rows k seat i q w e z =
     let p : Passes isFree (take k rows) i = first-at isFree (take k rows) i e in
     let m : length (take k rows) ≤ k = omega (arith, length-take k rows) in
@@ -297,11 +299,13 @@ module _ (own : FarmSheet) (seat : ℕ) (q : Request) (n : ℕ) (h : Held) (d : 
   bytes-moved : (i : ℕ) (input : List ℕ) (x : RowState) → rowAt (h .farm .rows) i .state ≡ x → Moves (bytesBy own h i input x)
   bytes-moved i input Free e = waits d
   bytes-moved i input (Fresh age) e =
-      bytes-due own seat q n i (λ z. let y : Fresh age ≡ Waiting q = sym e ∙ rw (← z) (d .near .asks) in let o : _≡_ {A = ℕ} 0 1 = cc in omega arith)
+      bytes-due own seat q n i
+      (λ z. let y : Fresh age ≡ Waiting q = sym e ∙ rw (← z) (d .near .asks) in let o : _≡_ {A = ℕ} 0 1 = cc in omega arith)
       (takenBy i (getD (h .rooms) i []) input (h .farm)) (h .farm) (d .near)
   bytes-moved i input (Waiting r) e = waits d
   bytes-moved i input (Active a idle) e =
-      bytes-due own seat q n i (λ z. let y : Active a idle ≡ Waiting q = sym e ∙ rw (← z) (d .near .asks) in let o : _≡_ {A = ℕ} 0 1 = cc in omega arith)
+      bytes-due own seat q n i
+      (λ z. let y : Active a idle ≡ Waiting q = sym e ∙ rw (← z) (d .near .asks) in let o : _≡_ {A = ℕ} 0 1 = cc in omega arith)
       (takenBy i (getD (h .rooms) i []) input (h .farm)) (h .farm) (d .near)
 
   tester-moved : (from to : ℕ) (user : List ℕ) (x : Found) → Moves (toTester own h from to user x)

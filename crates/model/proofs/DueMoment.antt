@@ -133,7 +133,8 @@ module _ (own : FarmSheet) (head : ℕ) (rest : List ℕ) (f : Farm) where
   unfolding andThen
   serve-told next ih = by (headVerdict own f head) refl (verdict-because own f head)
     where
-      by : (v : HeadVerdict) → headVerdict own f head ≡ v → Reason own f head v → Each (Told own (head ∷ rest) f) (serve own head rest f v next .items)
+      by : (v : HeadVerdict) → headVerdict own f head ≡ v → Reason own f head v
+          → Each (Told own (head ∷ rest) f) (serve own head rest f v next .items)
       by Pending e r = none-each (Told own (head ∷ rest) f)
       by (Answer code) e r =
           let d : Done = answered own head (wanted (rowAt (f .rows) head)) code f in

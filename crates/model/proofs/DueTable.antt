@@ -63,8 +63,8 @@ slot-tick s i (x ∷ t) (suc g) h =
     let e : suc i + g ≡ i + suc g = omega arith in
     slot-tick s (suc i) t g (le-of-suc-le-suc h) ∙ ap (λ (k : ℕ). heldBy (slot t g) (slotTick s k (slot t g))) e
 
-tick-entries : (row address : ℕ) (s : List ℕ) (i : ℕ) (t : Table) (g : ℕ) → g < length t → Answered row address (itemsBy (slotTick s (i + g) (slot t g)))
-    → Answered row address (tickItems s i t)
+tick-entries : (row address : ℕ) (s : List ℕ) (i : ℕ) (t : Table) (g : ℕ) → g < length t
+    → Answered row address (itemsBy (slotTick s (i + g) (slot t g))) → Answered row address (tickItems s i t)
 tick-entries row address s i [] g h a = absurd (not-suc-le-zero h)
 tick-entries row address s i (x ∷ t) zero h a = more-left (tickItems s (suc i) t) (rw add-zero at a)
 tick-entries row address s i (x ∷ t) (suc g) h a =
@@ -167,7 +167,9 @@ module _ (s : List ℕ) (g seat row : ℕ) (q : Request) (owner : ownerOf s row 
 
   pub own-seen : (n : ℕ) (t : Table) (m : Move) → g < length t → Moved sheet seat q n (slot t g) m → Seen n t (movedTo t g m)
   own-seen n t m h (gone a) =
-      gone (subst (λ (x : List Item). Answered row (q .address) x) (sym (items-moved t g m)) (subst (λ (r : ℕ). Answered r (q .address) (itemsBy m)) row-is a))
+      gone
+      (subst (λ (x : List Item). Answered row (q .address) x) (sym (items-moved t g m))
+      (subst (λ (r : ℕ). Answered r (q .address) (itemsBy m)) row-is a))
   own-seen n t m h (waits d) = waits (subst (λ (x : Held). Due seat q n (x .farm)) (sym (slot-own t g m h)) d)
 
   called-seen : (n : ℕ) (t : Table) (w : Whose) → (w ≡ everyones → ⊥) → ((o : Own) → w ≡ farms g o → isCut seat o ≡ false)
@@ -198,7 +200,8 @@ module _ (s : List ℕ) (g seat row : ℕ) (q : Request) (owner : ownerOf s row 
       go (gone a) =
           gone
           (tick-entries row (q .address) s 0 t g has
-          (subst (λ (m : Move). Answered row (q .address) (itemsBy m)) (sym ticks) (subst (λ (r : ℕ). Answered r (q .address) (itemsBy (tickMove sheet (slot t g)))) row-is a)))
+          (subst (λ (m : Move). Answered row (q .address) (itemsBy m)) (sym ticks)
+          (subst (λ (r : ℕ). Answered r (q .address) (itemsBy (tickMove sheet (slot t g)))) row-is a)))
       go (waits e) = waits (subst (λ (x : Held). Due seat q n (x .farm)) (sym held) e)
 
   -- ---- the step law: a call ends the wait, or leaves it due in what remains

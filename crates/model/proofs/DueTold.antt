@@ -34,7 +34,7 @@ use Rattle.model.specs.Line.{accepted, decide, answered, joined, isEmpty
 use Rattle.model.specs.Bytes.{decidedBy, requested, toTarget, diagnosed, faulted, eventDone, heard, bytesDone}
 use Rattle.model.specs.Move.{Own, connect, bytes, peerClosed, linkLost, datagram, controller, Held, Move, connectedAt, connects, bytesBy, peerGone, linkGone, clockRun, aged, ticked, answers, datagramMove, toTester, controllerMove, isTarget, mostUser, move, tickMove}
 use Rattle.model.specs.Table.{itemsBy}
-use Rattle.model.specs.Words.{takenOf, Handed, afterBytes, afterClose, Why, atOnce, inLine}
+use Rattle.model.specs.Words.{takenOf, ToSettle, afterBytes, afterClose, Why, atOnce, inLine}
 use Rattle.model.proofs.Cases.{pick-case, unless-case}
 use Rattle.model.proofs.DueMoment.{Each, none-each, one-each, append-each, then-each, Plain, closed-plain, closings-plain, started-plain, advanced-plain, Told, plain-told, settle-told}
 
@@ -53,12 +53,14 @@ target-plain own i e reachable f =
 diagnosed-plain : (own : FarmSheet) (i : ℕ) (e : Ends) (f : Farm) → Each Plain (diagnosed own i e f .items)
 unfolding diagnosed
 diagnosed-plain own i e f =
-    pick-case (λ (d : Done). Each Plain (d .items)) (activeAs (e .source) (rowAt (f .rows) i)) _ _ (λ _. target-plain own i e (own .target (e .target)) f)
+    pick-case (λ (d : Done). Each Plain (d .items)) (activeAs (e .source) (rowAt (f .rows) i)) _ _
+    (λ _. target-plain own i e (own .target (e .target)) f)
     (λ _. said-closed own i _ f (λ a b c p. let z : _≡_ {A = ℕ} 0 1 = cc in omega arith))
 
 faulted-plain : (own : FarmSheet) (i : ℕ) (x : Fault) (f : Farm) → Each Plain (faulted own i x f .items)
 faulted-plain own i x f =
-    pick-case (λ (d : Done). Each Plain (d .items)) (closes x) _ _ (λ _. said-closed own i _ f (λ a b c p. let z : _≡_ {A = ℕ} 0 1 = cc in omega arith))
+    pick-case (λ (d : Done). Each Plain (d .items)) (closes x) _ _
+    (λ _. said-closed own i _ f (λ a b c p. let z : _≡_ {A = ℕ} 0 1 = cc in omega arith))
     (λ _. one-each Plain _ (λ a b c p. let z : _≡_ {A = ℕ} 0 1 = cc in omega arith))
 
 joined-plain : (own : FarmSheet) (i : ℕ) (q : Request) (f : Farm) → Each Plain (joined own i q f .items)
@@ -109,7 +111,7 @@ module _ (own : FarmSheet) (h : Held) where
   plain-why : (c : Own) (items : List Item) → Each Plain items → Each (Reasons c) items
   plain-why c items p it m a e k r = absurd (p it m a e k r)
 
-  settle-why : (c : Own) (g : Farm) → Handed own h c g → Each (Reasons c) (settle own g .items)
+  settle-why : (c : Own) (g : Farm) → ToSettle own h c g → Each (Reasons c) (settle own g .items)
   settle-why c g d it m a e k r = inLine g d (settle-told own (g .line) g it m a e k r)
 
   module _ (seat : ℕ) (input : List ℕ) where
@@ -152,7 +154,8 @@ module _ (own : FarmSheet) (h : Held) where
     bytes-why : Each (Reasons (bytes seat input)) (bytesDone own seat took (h .farm) .items)
     unfolding bytesDone
     bytes-why =
-        then-each (Reasons (bytes seat input)) (eventDone own seat (took .event) (took .stream .room) then) (settle own) (event-why (took .event) refl)
+        then-each (Reasons (bytes seat input)) (eventDone own seat (took .event) (took .stream .room) then) (settle own)
+        (event-why (took .event) refl)
         (settle-why (bytes seat input) _ (afterBytes seat input))
 
     by-state : (x : RowState) → Each (Reasons (bytes seat input)) (itemsBy (bytesBy own h seat input x))
@@ -166,7 +169,8 @@ module _ (own : FarmSheet) (h : Held) where
   peer-why seat =
       then-each (Reasons (peerClosed seat)) (andThen (closed own seat (h .farm)) (left own seat)) (settle own)
       (plain-why (peerClosed seat) _
-      (then-each Plain (closed own seat (h .farm)) (left own seat) (closed-plain own seat (h .farm)) (left-plain own seat (closed own seat (h .farm) .farm))))
+      (then-each Plain (closed own seat (h .farm)) (left own seat) (closed-plain own seat (h .farm))
+      (left-plain own seat (closed own seat (h .farm) .farm))))
       (settle-why (peerClosed seat) _ (afterClose seat))
 
   link-why : Each (Reasons linkLost) (linkGone own (h .farm) .items)

@@ -1,6 +1,6 @@
 -- A request that must wait joins the end of its farm's line: one farm's part of it.
 -- Assumes nothing.
-use Prim.Native.Nat.{ℕ, zero, suc, _*_, _≤_, _<_}
+use Prim.Native.Nat.{ℕ, suc, _*_, _≤_, _<_}
 use mathlib.Core.Path.{_≡_, refl, sym, ap, _∙_}
 use mathlib.Core.Bool.{Bool, true, false}
 use mathlib.Core.List.{List, [], _∷_, _++_, append-nil}
@@ -8,33 +8,27 @@ use native.Mathlib.Nat.{mul-suc}
 use native.Mathlib.Omega.{arith}
 use lib.Dec.{eqb, leb}
 use lib.ListN.{set, length, length-set, take}
-use borrow.Author.Tests.{eq-eqb}
-use Rattle.octets.specs.declared.Found.{Found}
-use Rattle.octets.specs.declared.Found.the-variants.{At, Nothing}
-use Rattle.octets.specs.Choice.{pick, unless, one}
-use Rattle.octets.specs.Search.{firstAt, countIf}
-use Rattle.octets.specs.Fold.{upTo}
+use Rattle.octets.specs.Choice.{unless}
 use Rattle.kinds.specs.declared.Clock.{Clock}
 use Rattle.kinds.specs.declared.Request.{Request}
 use Rattle.kinds.specs.declared.Row.{Row}
 use Rattle.kinds.specs.declared.RowState.{RowState}
 use Rattle.kinds.specs.declared.RowState.the-variants.{Free, Fresh, Waiting, Active}
 use Rattle.kinds.specs.declared.Check.{Check}
-use Rattle.kinds.specs.declared.Check.the-variants.{One, All}
 use Rattle.kinds.specs.declared.Decision.{Decision}
 use Rattle.kinds.specs.declared.Decision.the-variants.{Now, Ask}
 use Rattle.kinds.specs.declared.HeadVerdict.the-variants.{Pending}
 use Rattle.wire.specs.Payload.{requestIn}
 use Rattle.model.specs.FarmSheet.{FarmSheet}
-use Rattle.model.specs.Row.{checkLimit, rowAt, waitingRow, isOpenState, isWaitingState, isActiveState, activeAsState, isWaiting, isActive, activeAs, wanted, heardState}
+use Rattle.model.specs.Row.{checkLimit, rowAt, waitingRow, isOpenState, isWaitingState, isActiveState, activeAsState, isActive, activeAs, wanted, heardState}
 use Rattle.model.specs.Stream.{finished, Taken}
 use Rattle.model.specs.Farm.{Farm, Done, quietly, andThen, seatCount, withRow, withLine}
-use Rattle.model.specs.Line.{accepted, byHolder, byState, socketRules, decide, asks, isSilent, allAnswered, started, advanced, verdictBy, headVerdict, settleLine, settle, isEmpty, joined}
+use Rattle.model.specs.Line.{accepted, byState, socketRules, decide, asks, advanced, headVerdict, settleLine, settle, isEmpty, joined}
 use Rattle.model.specs.Bytes.{requested, eventDone, heard, heardRow, bytesDone}
-use Rattle.model.specs.Rule.{times, HeadKeeps, Good}
+use Rattle.model.specs.Rule.{HeadKeeps, Good}
 use Rattle.model.specs.Words.{Stands, first, behind}
 use Rattle.model.proofs.Cases.{pick-case, unless-case}
-use Rattle.model.proofs.Rows.{row-set, row-same, row-other, open-in, count-same}
+use Rattle.model.proofs.Rows.{row-set, row-same, row-other, open-in}
 use Rattle.model.proofs.Settling.{advanced-farm, limit-positive, started-open}
 use Rattle.model.proofs.CalmRows.{Alike, SameAsked, same-asked}
 use Rattle.model.proofs.CalmCheck.{ready-of, same-check, verdict-same}
@@ -190,7 +184,7 @@ module _ (own : FarmSheet) (f : Farm) (seat : ℕ) (t : Taken) (size : ℕ) (req
     same a =
         let x : SameAsked own (f .rows) (set (f .rows) seat after) a = idle-asked own (f .rows) seat after was is a in
         let y : SameAsked own (set (f .rows) seat after) (at-end .rows) a =
-            idle-asked own (set (f .rows) seat after) seat (waitingRow request) was-then waits-is a in
+        idle-asked own (set (f .rows) seat after) seat (waitingRow request) was-then waits-is a in
         record { check = y .check ∙ x .check; asked = λ i. y .asked i ∙ x .asked i }
 
     -- the row itself asks for its address
@@ -235,7 +229,8 @@ module _ (own : FarmSheet) (f : Farm) (seat : ℕ) (t : Taken) (size : ℕ) (req
             rw (joins-behind head rest e)
             (still g head (rest ++ seat ∷ []) refl
             (verdict-same own f g head
-            (same-check own f g head (same-wanted head (apart (ready-of good) head rest e seat (ap isWaitingState fresh))) (same (wanted (rowAt (f .rows) head))))
+            (same-check own f g head (same-wanted head (apart (ready-of good) head rest e seat (ap isWaitingState fresh)))
+            (same (wanted (rowAt (f .rows) head))))
             refl refl ∙ k))
 
     -- so the call does nothing but join

@@ -134,11 +134,11 @@ pub record AnswerAt (own : FarmSheet) (line : List ℕ) (f : Farm) (it : Item) :
   pub isEntry : it ≡ says own head (Activation (wanted (rowAt (moment .rows) head)) (own .entity) code)
 
 -- the farm that a call hands to settling
-pub data Handed (own : FarmSheet) (h : Held) : Own → Farm → Type 0 where
+pub data ToSettle (own : FarmSheet) (h : Held) : Own → Farm → Type 0 where
   afterBytes : (seat : ℕ) (input : List ℕ)
-      → Handed own h (bytes seat input)
+      → ToSettle own h (bytes seat input)
       (eventDone own seat (takenOf h seat input .event) (takenOf h seat input .stream .room) (heard seat (takenOf h seat input) (h .farm)) .farm)
-  afterClose : (seat : ℕ) → Handed own h (peerClosed seat) (andThen (closed own seat (h .farm)) (left own seat) .farm)
+  afterClose : (seat : ℕ) → ToSettle own h (peerClosed seat) (andThen (closed own seat (h .farm)) (left own seat) .farm)
 
 -- why a call of the farm sends a response 0006
 pub data Why (own : FarmSheet) (h : Held) (c : Own) (it : Item) : Type 0 where
@@ -148,4 +148,4 @@ pub data Why (own : FarmSheet) (h : Held) (c : Own) (it : Item) : Type 0 where
       → decide own (heard seat (takenOf h seat input) (h .farm) .rows) seat q ≡ Now code
       → it ≡ says own seat (Activation (q .address) (own .entity) code) → Why own h c it
   -- the head of the line has its answer
-  inLine : (g : Farm) → Handed own h c g → AnswerAt own (g .line) g it → Why own h c it
+  inLine : (g : Farm) → ToSettle own h c g → AnswerAt own (g .line) g it → Why own h c it
