@@ -3,3 +3,4 @@ pub mod RulesLaws
 pub mod FindLaws
 pub mod RowsLaws
 pub mod Example
+pub mod TestLaws
