@@ -3,4 +3,7 @@ pub mod Rows
 pub mod Seats
 pub mod Split
 pub mod RuleTestLaws
+pub mod WindowAlone
+pub mod WindowTick
+pub mod Window
 pub mod Try
