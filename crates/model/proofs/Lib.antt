@@ -6,4 +6,6 @@ pub mod RuleTestLaws
 pub mod WindowAlone
 pub mod WindowTick
 pub mod Window
+pub mod Neighbour
+pub mod Address
 pub mod Try

@@ -1,0 +1,123 @@
+-- Demand 2: "A tester's address is never active on two connections."
+-- Assumes nothing; for histories, as a parameter, what another file proves: rule 4 is kept.
+use Prim.Native.Nat.{ℕ, zero, suc, _+_, _≤_, _<_}
+use mathlib.Core.Path.{_≡_, refl, sym, ap, subst, _∙_}
+use mathlib.Core.Bool.{Bool, true, false}
+use mathlib.Core.List.{List, [], _∷_}
+use native.Mathlib.Nat.{zero-add}
+use native.Mathlib.Omega.{arith}
+use lib.Dec.{eqb, ltb}
+use lib.ListN.{length, getD, replicate}
+use borrow.Author.Tests.{eqb-true, ltb-true}
+use Rattle.octets.specs.Choice.{pick, both, one}
+use Rattle.octets.specs.Search.{countIf}
+use Rattle.octets.proofs.SaysLaws.{never}
+use Rattle.octets.proofs.ChoiceLaws.{both-left, both-right}
+use Rattle.kinds.specs.declared.RowState.{RowState}
+use Rattle.kinds.specs.declared.RowState.the-variants.{Free, Fresh, Waiting, Active}
+use Rattle.kinds.specs.declared.Row.{Row}
+use Rattle.sheet.specs.declared.find.Found.{Found}
+use Rattle.sheet.specs.declared.find.Found.the-variants.{Is, Nobody}
+use Rattle.sheet.specs.Sheet.{farmCount, testersOf}
+use Rattle.sheet.specs.Find.{lookup}
+use Rattle.model.specs.FarmSheet.{FarmSheet, testerBy, farmSheet, noFarm, slotSheet}
+use Rattle.model.specs.Row.{freeRow, rowAt, activeAs, activeAsState}
+use Rattle.model.specs.Farm.{Farm, seatCount, newFarm}
+use Rattle.model.specs.Move.{Held}
+use Rattle.model.specs.Rule.{RowKeeps, Good}
+use Rattle.model.specs.RuleTest.{goodFarm}
+use Rattle.model.specs.Table.{Table, noHeld, slot, goodFrom, goodTable}
+use Rattle.model.specs.History.{Made, fresh, run}
+use Rattle.model.proofs.Cases.{split}
+use Rattle.model.proofs.Rows.{count-some}
+use Rattle.model.proofs.RuleTestLaws.{farm-says}
+
+-- ---- within a farm: what is counted once stands at one place
+
+pub once-place : (p : Row → Bool) → p (rowAt [] 0) ≡ false → (rows : List Row) → countIf p rows ≤ 1 → (i j : ℕ) → p (rowAt rows i) ≡ true
+    → p (rowAt rows j) ≡ true → i ≡ j
+unfolding countIf
+once-place p n [] h i j a b = absurd (never (sym n ∙ a))
+once-place p n (x ∷ xs) h zero zero a b = refl
+once-place p n (x ∷ xs) h zero (suc j) a b =
+    let z : one (p x) ≡ 1 = ap one a in absurd (omega (arith, count-some p n xs j b))
+once-place p n (x ∷ xs) h (suc i) zero a b =
+    let z : one (p x) ≡ 1 = ap one b in absurd (omega (arith, count-some p n xs i a))
+once-place p n (x ∷ xs) h (suc i) (suc j) a b = ap suc (once-place p n xs (omega arith) i j a b)
+
+-- ---- across farms: an active address is a tester of that farm, and the sheet knows a tester once
+
+tester-keeps : (own : FarmSheet) (r : Row) (st : RowState) (a : ℕ) → RowKeeps own r st → activeAsState a st ≡ true → own .tester a ≡ true
+tester-keeps own r Free a k e = absurd (never e)
+tester-keeps own r (Fresh age) a k e = absurd (never e)
+tester-keeps own r (Waiting q) a k e = absurd (never e)
+tester-keeps own r (Active b idle) a k e = subst (λ (c : ℕ). own .tester c ≡ true) (eqb-true b a e) k
+
+-- a tester of a slot's farm is the sheet's tester with that farm
+tester-of : (s : List ℕ) (f a : ℕ) → slotSheet s f .tester a ≡ true → testerBy f (lookup a (testersOf s)) ≡ true
+unfolding slotSheet farmSheet noFarm
+tester-of s f a e = by (ltb f (farmCount s)) e
+  where
+    by : (b : Bool) → pick b (farmSheet s f) noFarm .tester a ≡ true → testerBy f (lookup a (testersOf s)) ≡ true
+    by true k = k
+    by false k = absurd (never k)
+
+one-farm : (f g : ℕ) (x : Found) → testerBy f x ≡ true → testerBy g x ≡ true → f ≡ g
+one-farm f g (Is k) a b = sym (eqb-true (k .farm .0) f a) ∙ eqb-true (k .farm .0) g b
+one-farm f g Nobody a b = absurd (never a)
+
+-- ---- "A tester's address is never active on two connections."
+
+-- The row i of farm f and the row j of farm g, both active with one address, are one row: of any two farms that keep rule 4 under one sheet.
+pub address-once : (s : List ℕ) (farm : ℕ → Farm) (f g : ℕ) → Good (slotSheet s f) (farm f) → Good (slotSheet s g) (farm g) → (i j a : ℕ)
+    → activeAs a (rowAt (farm f .rows) i) ≡ true → activeAs a (rowAt (farm g .rows) j) ≡ true → (f ≡ g) × (i ≡ j)
+address-once s farm f g p q i j a x y =
+    let same : f ≡ g =
+        one-farm f g (lookup a (testersOf s))
+        (tester-of s f a (tester-keeps (slotSheet s f) (rowAt (farm f .rows) i) (rowAt (farm f .rows) i .state) a (p .rowsKeep i) x))
+        (tester-of s g a (tester-keeps (slotSheet s g) (rowAt (farm g .rows) j) (rowAt (farm g .rows) j .state) a (q .rowsKeep j) y)) in
+    (same, once-place (activeAs a) refl (farm f .rows) (p .activeOnce a) i j x (subst (λ (k : ℕ). activeAs a (rowAt (farm k .rows) j) ≡ true) (sym same) y))
+
+-- ---- of a table
+
+-- each slot of a good table is a good farm
+pub slot-good : (s : List ℕ) (k i : ℕ) (t : Table) → goodFrom s k t ≡ true → i < length t → Good (slotSheet s (k + i)) (slot t i .farm)
+slot-good s k i [] e h = absurd (omega arith)
+slot-good s k zero (h ∷ t) e l =
+    farm-says (slotSheet s (k + 0)) (h .farm) .right
+    (let z : k + 0 ≡ k = omega arith in rw z (both-left (goodFarm (slotSheet s k) (h .farm)) (goodFrom s (suc k) t) e))
+slot-good s k (suc i) (h ∷ t) e l =
+    let z : suc k + i ≡ k + suc i = omega arith in
+    subst (λ (f : ℕ). Good (slotSheet s f) (slot t i .farm)) z
+    (slot-good s (suc k) i t (both-right (goodFarm (slotSheet s k) (h .farm)) (goodFrom s (suc k) t) e) (omega arith))
+
+pub slot-good-at : (s : List ℕ) (t : Table) → goodTable s t ≡ true → (f : ℕ) → f < length t → Good (slotSheet s f) (slot t f .farm)
+unfolding goodTable
+slot-good-at s t e f h =
+    subst (λ (k : ℕ). Good (slotSheet s k) (slot t f .farm)) (zero-add f) (slot-good s 0 f t e h)
+
+free-at : (n i : ℕ) → rowAt (replicate n freeRow) i ≡ freeRow
+free-at zero i = refl
+free-at (suc n) zero = refl
+free-at (suc n) (suc i) = free-at n i
+
+-- no row is active where there is no slot
+pub active-slot : (t : Table) (f i a : ℕ) → activeAs a (rowAt (slot t f .farm .rows) i) ≡ true → f < length t
+unfolding newFarm
+active-slot [] f i a e = absurd (never (sym (ap (activeAs a) (free-at seatCount i)) ∙ e))
+active-slot (h ∷ t) zero i a e = omega arith
+active-slot (h ∷ t) (suc f) i a e = omega (arith, active-slot t f i a e)
+
+-- Of a table that keeps rule 4: row i of farm f and row j of farm g, both active with one address, are one row.
+pub table-once : (s : List ℕ) (t : Table) → goodTable s t ≡ true → (f g i j a : ℕ) → activeAs a (rowAt (slot t f .farm .rows) i) ≡ true
+    → activeAs a (rowAt (slot t g .farm .rows) j) ≡ true → (f ≡ g) × (i ≡ j)
+table-once s t k f g i j a x y =
+    address-once s (λ f. slot t f .farm) f g (slot-good-at s t k f (active-slot t f i a x)) (slot-good-at s t k g (active-slot t g j a y)) i j a x y
+
+-- ---- of a history
+
+module _ (s : List ℕ) (rooms : List (List (List ℕ))) (keeps : (ms : List Made) → goodTable s (run s (fresh rooms) ms) ≡ true) where
+  -- THE SINGLE ADDRESS. "A tester's address is never active on two connections": after any history from a fresh table.
+  pub history-once : (ms : List Made) (f g i j a : ℕ) → activeAs a (rowAt (slot (run s (fresh rooms) ms) f .farm .rows) i) ≡ true
+      → activeAs a (rowAt (slot (run s (fresh rooms) ms) g .farm .rows) j) ≡ true → (f ≡ g) × (i ≡ j)
+  history-once ms f g i j a x y = table-once s (run s (fresh rooms) ms) (keeps ms) f g i j a x y
