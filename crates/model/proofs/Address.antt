@@ -4,15 +4,13 @@ use Prim.Native.Nat.{ℕ, zero, suc, _+_, _≤_, _<_}
 use mathlib.Core.Path.{_≡_, refl, sym, ap, subst, _∙_}
 use mathlib.Core.Bool.{Bool, true, false}
 use mathlib.Core.List.{List, [], _∷_}
-use native.Mathlib.Nat.{zero-add}
 use native.Mathlib.Omega.{arith}
 use lib.Dec.{eqb, ltb}
 use lib.ListN.{length, getD, replicate}
 use borrow.Author.Tests.{eqb-true, ltb-true}
-use Rattle.octets.specs.Choice.{pick, both, one}
+use Rattle.octets.specs.Choice.{pick, one}
 use Rattle.octets.specs.Search.{countIf}
 use Rattle.octets.proofs.SaysLaws.{never}
-use Rattle.octets.proofs.ChoiceLaws.{both-left, both-right}
 use Rattle.kinds.specs.declared.RowState.{RowState}
 use Rattle.kinds.specs.declared.RowState.the-variants.{Free, Fresh, Waiting, Active}
 use Rattle.kinds.specs.declared.Row.{Row}
@@ -25,12 +23,11 @@ use Rattle.model.specs.Row.{freeRow, rowAt, activeAs, activeAsState}
 use Rattle.model.specs.Farm.{Farm, seatCount, newFarm}
 use Rattle.model.specs.Move.{Held}
 use Rattle.model.specs.Rule.{RowKeeps, Good}
-use Rattle.model.specs.RuleTest.{goodFarm}
-use Rattle.model.specs.Table.{Table, noHeld, slot, goodFrom, goodTable}
+use Rattle.model.specs.Table.{Table, slot, goodTable}
 use Rattle.model.specs.History.{Made, fresh, run}
 use Rattle.model.proofs.Cases.{split}
 use Rattle.model.proofs.Rows.{count-some}
-use Rattle.model.proofs.RuleTestLaws.{farm-says}
+use Rattle.model.proofs.TableTest.{table-says}
 
 -- ---- within a farm: what is counted once stands at one place
 
@@ -80,22 +77,6 @@ address-once s farm f g p q i j a x y =
 
 -- ---- of a table
 
--- each slot of a good table is a good farm
-pub slot-good : (s : List ℕ) (k i : ℕ) (t : Table) → goodFrom s k t ≡ true → i < length t → Good (slotSheet s (k + i)) (slot t i .farm)
-slot-good s k i [] e h = absurd (omega arith)
-slot-good s k zero (h ∷ t) e l =
-    farm-says (slotSheet s (k + 0)) (h .farm) .right
-    (let z : k + 0 ≡ k = omega arith in rw z (both-left (goodFarm (slotSheet s k) (h .farm)) (goodFrom s (suc k) t) e))
-slot-good s k (suc i) (h ∷ t) e l =
-    let z : suc k + i ≡ k + suc i = omega arith in
-    subst (λ (f : ℕ). Good (slotSheet s f) (slot t i .farm)) z
-    (slot-good s (suc k) i t (both-right (goodFarm (slotSheet s k) (h .farm)) (goodFrom s (suc k) t) e) (omega arith))
-
-pub slot-good-at : (s : List ℕ) (t : Table) → goodTable s t ≡ true → (f : ℕ) → f < length t → Good (slotSheet s f) (slot t f .farm)
-unfolding goodTable
-slot-good-at s t e f h =
-    subst (λ (k : ℕ). Good (slotSheet s k) (slot t f .farm)) (zero-add f) (slot-good s 0 f t e h)
-
 free-at : (n i : ℕ) → rowAt (replicate n freeRow) i ≡ freeRow
 free-at zero i = refl
 free-at (suc n) zero = refl
@@ -112,7 +93,7 @@ active-slot (h ∷ t) (suc f) i a e = omega (arith, active-slot t f i a e)
 pub table-once : (s : List ℕ) (t : Table) → goodTable s t ≡ true → (f g i j a : ℕ) → activeAs a (rowAt (slot t f .farm .rows) i) ≡ true
     → activeAs a (rowAt (slot t g .farm .rows) j) ≡ true → (f ≡ g) × (i ≡ j)
 table-once s t k f g i j a x y =
-    address-once s (λ f. slot t f .farm) f g (slot-good-at s t k f (active-slot t f i a x)) (slot-good-at s t k g (active-slot t g j a y)) i j a x y
+    address-once s (λ f. slot t f .farm) f g (table-says s t .right k f (active-slot t f i a x)) (table-says s t .right k g (active-slot t g j a y)) i j a x y
 
 -- ---- of a history
 

@@ -7,5 +7,7 @@ pub mod WindowAlone
 pub mod WindowTick
 pub mod Window
 pub mod Neighbour
+pub mod TableTest
+pub mod TableRefuses
 pub mod Address
 pub mod Try
