@@ -6,6 +6,8 @@ pub mod RuleTestLaws
 pub mod WindowAlone
 pub mod WindowTick
 pub mod Window
+pub mod WindowRows
+pub mod WindowStream
 pub mod Neighbour
 pub mod TableTest
 pub mod TableRefuses
