@@ -8,6 +8,7 @@ pub mod WindowTick
 pub mod Window
 pub mod WindowRows
 pub mod WindowStream
+pub mod WindowRooms
 pub mod Neighbour
 pub mod TableTest
 pub mod TableRefuses

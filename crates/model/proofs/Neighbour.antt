@@ -5,18 +5,21 @@ use mathlib.Core.Path.{_≡_, refl, sym, ap, _∙_}
 use mathlib.Core.Bool.{Bool, true}
 use mathlib.Core.List.{List, [], _∷_}
 use native.Mathlib.Omega.{arith}
-use lib.ListN.{length, getD}
+use lib.ListN.{length, getD, replicate}
 use Rattle.sheet.specs.Sheet.{farmCount}
 use Rattle.sheet.specs.Rules.{GoodSheet}
 use Rattle.sheet.specs.Test.{goodSheet}
 use Rattle.sheet.proofs.TestLaws.{good-says}
-use Rattle.model.specs.Farm.{newFarm}
+use Rattle.model.specs.Row.{freeRow, rowAt}
+use Rattle.model.specs.Farm.{seatCount, newFarm}
 use Rattle.model.specs.Move.{Held}
 use Rattle.model.specs.Table.{Table, slot, goodTable}
 use Rattle.model.specs.History.{Made, fresh, run, callsOf, hasOf}
 use Rattle.model.proofs.WindowAlone.{alone, heldAfter}
 use Rattle.model.proofs.WindowTick.{TickOwn}
 use Rattle.model.proofs.Window.{window, held-window}
+use Rattle.model.proofs.WindowStream.{agree-none}
+use Rattle.model.proofs.WindowRooms.{HeldAlike, alone-same}
 
 -- a new farm over its rooms
 abbrev pub newHeld : List (List ℕ) → Held
@@ -57,3 +60,32 @@ module _ (s : List ℕ) (good : GoodSheet s) (tick-own : TickOwn s) (g : ℕ) (i
   pub neighbour-holds : (ms ns : List Made) → callsOf s g (fresh rooms) ms ≡ callsOf s g (fresh rooms) ns
       → slot (run s (fresh rooms) ms) g ≡ slot (run s (fresh rooms) ns) g
   neighbour-holds ms ns e = held-alone ms ∙ ap (heldAfter s g (newHeld (getD rooms g []))) e ∙ sym (held-alone ns)
+
+-- ---- the same over two assembling buffers
+
+-- buffers of one shape: as many rooms, and each as long as the other's
+pub record SameShape (a b : List (List ℕ)) : Type 0 where
+  pub count : length a ≡ length b
+  pub each : (i : ℕ) → length (getD a i []) ≡ length (getD b i [])
+
+new-row : (n i : ℕ) → rowAt (replicate n freeRow) i ≡ freeRow
+new-row zero i = refl
+new-row (suc n) zero = refl
+new-row (suc n) (suc i) = new-row n i
+
+-- a new farm has no message in hand
+new-alike : (a b : List (List ℕ)) → SameShape a b → HeldAlike (newHeld a) (newHeld b)
+unfolding newFarm
+new-alike a b h = record { farm = refl; rooms = record { count = h .count; each = λ i. rw (new-row seatCount i) (agree-none (h .each i)) } }
+
+module _ (s : List ℕ) (good : GoodSheet s) (tick-own : TickOwn s) (g : ℕ) (inSheet : g < farmCount s) where
+  -- THE NEIGHBOUR CLAUSE, whatever stood in the assembling buffers: what stands in a room before a message is read never matters, because every byte of a
+  -- stored payload is written before it is looked at.
+  pub neighbour-any : (a b : List (List (List ℕ))) → g < length a → g < length b → SameShape (getD a g []) (getD b g [])
+      → ((ms : List Made) → goodTable s (run s (fresh a) ms) ≡ true) → ((ns : List Made) → goodTable s (run s (fresh b) ns) ≡ true)
+      → (ms ns : List Made) → callsOf s g (fresh a) ms ≡ callsOf s g (fresh b) ns → hasOf s g (fresh a) ms ≡ hasOf s g (fresh b) ns
+  neighbour-any a b ia ib shape ka kb ms ns e =
+      has-alone s good tick-own g inSheet a ia ka ms
+      ∙ alone-same s g (callsOf s g (fresh a) ms) (newHeld (getD a g [])) (newHeld (getD b g [])) (new-alike (getD a g []) (getD b g []) shape)
+      ∙ ap (alone s g (newHeld (getD b g []))) e
+      ∙ sym (has-alone s good tick-own g inSheet b ib kb ns)
