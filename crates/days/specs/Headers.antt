@@ -1,12 +1,10 @@
 -- The worked days that are about one header.
 -- Assumes nothing: these are definitions.
-use mathlib.Core.Bool.{Bool, true, false}
 use mathlib.Core.List.{List, [], _∷_}
 use Prim.Native.Nat.{ℕ}
 use Rattle.octets.specs.Choice.{pick}
 use Rattle.kinds.specs.declared.Verdict.{Verdict}
 use Rattle.kinds.specs.declared.Verdict.the-variants.{Passes, Wrong}
-use Rattle.wire.specs.declared.header.Header.{Header}
 use Rattle.wire.specs.Header.{headerAt, verdictOf, codeOf, closes}
 use Rattle.days.specs.Day.{Day, plain}
 
@@ -31,7 +29,7 @@ abbrev pub judgedOf : ℕ → ℕ → List ℕ
 judgedOf kind n = saidOf (verdictOf (record { version = 3; inverse = 252; kind = kind; length = n }))
 
 -- "P `03 FD` pattern: NACK 00, close. P Length 2,048 passes, P 2,049 is NACK 02. P Length 4 on 8001: NACK 04. P Type 0007 from a tester,
--- any length: NACK 01." (Lengths on 8001; 02 and 01 skip, 04 closes.)
+-- any length: NACK 01." (Lengths on 8001: DECISIONS, D9. 02 and 01 skip, 04 closes.)
 unfoldable pub headerDays : List Day
 headerDays =
     plain (judged (0x03 ∷ 0xFD ∷ 0x80 ∷ 0x01 ∷ 0 ∷ 0 ∷ 0 ∷ 5 ∷ [])) (nackAndClose 0)

@@ -1,14 +1,14 @@
 -- Rule 4's test says the same as the record `Good`. The test asks only the seats that there are; beyond them every row is free.
 -- Assumes nothing.
 use Prim.{Unit}
-use Prim.Native.Nat.{ℕ, zero, suc, _+_, _≤_, _<_}
+use Prim.Native.Nat.{ℕ, zero, suc, _+_, _-_, _≤_, _<_}
 use mathlib.Core.Path.{_≡_, refl, sym, ap, subst, _∙_}
 use mathlib.Core.Bool.{Bool, true, false, not}
 use mathlib.Core.List.{List, [], _∷_}
 use mathlib.Core.Logic.{_⊎_, inl, inr, ⊎-elim}
 use native.Mathlib.Omega.{arith}
 use lib.Dec.{eqb, leb, ltb}
-use lib.ListN.{length, getD, List·getD-eq-default}
+use lib.ListN.{length, getD, drop, replicate, List·getD-eq-default}
 use borrow.Author.Tests.{eqb-true, eq-eqb, ne-eqb, ltb-true, ltb-false}
 use Rattle.octets.specs.Choice.{both, one}
 use Rattle.octets.specs.Says.{Says}
@@ -16,6 +16,7 @@ use Rattle.octets.specs.Search.{countIf, all}
 use Rattle.octets.proofs.SaysLaws.{never, says-yes, says-no, says-of}
 use Rattle.octets.proofs.ChoiceLaws.{says-both, says-either, says-not, says-true, says-le, says-lt, says-eq}
 use Rattle.octets.proofs.FoldLaws.{every-says}
+use Rattle.octets.proofs.SearchLaws.{same-says}
 use Rattle.kinds.specs.declared.Fault.{Fault}
 use Rattle.kinds.specs.declared.Fault.the-variants.{Pattern, UnknownType, TooLong, WrongLength}
 use Rattle.kinds.specs.declared.Verdict.{Verdict}
@@ -29,12 +30,13 @@ use Rattle.kinds.specs.declared.HeadVerdict.{HeadVerdict}
 use Rattle.kinds.specs.declared.HeadVerdict.the-variants.{Pending, Answer, RunOut}
 use Rattle.wire.specs.Header.{headerSize, headerAt, verdictOf}
 use Rattle.model.specs.FarmSheet.{FarmSheet}
-use Rattle.model.specs.Row.{checkLimit, boundary, freeRow, rowAt, isOpen, isWaiting, isActive, activeAs, activeAsState, atLimit}
+use Rattle.model.specs.Row.{checkLimit, boundary, freeRow, rowAt, isFree, isOpen, isWaiting, isActive, activeAs, activeAsState, atLimit}
 use Rattle.model.specs.Farm.{Farm, seatCount}
 use Rattle.model.specs.Line.{isMarked, isAsked, headVerdict}
-use Rattle.model.specs.Rule.{times, PossibleAt, RowKeeps, HeadKeeps, Good}
-use Rattle.model.specs.RuleTest.{everySeat, passes, isSkipFault, isSkipped, possibleAt, isBoundary, rowKeeps, activeOnceBy, isPending, headKeeps, seatKeeps, goodFarm}
+use Rattle.model.specs.Rule.{times, PossibleAt, TidyAt, Tidy, RowKeeps, HeadKeeps, Good}
+use Rattle.model.specs.RuleTest.{everySeat, passes, isSkipFault, isSkipped, possibleAt, isBoundary, tidyAt, isTidy, rowKeeps, activeOnceBy, isPending, headKeeps, seatKeeps, goodFarm}
 use Rattle.model.proofs.Cases.{split}
+use Rattle.model.proofs.TidyRows.{tidy-between}
 
 -- ---- the parts of a seat's test
 
@@ -61,6 +63,19 @@ boundary-says : (p : Place) → Says (isBoundary p) (p ≡ boundary)
 boundary-says (Header n) = says-of (λ e. ap Header e) (λ e. cc) (says-eq n 0)
 boundary-says (Reading n) = says-no (λ e. differ (cc))
 boundary-says (Skipping n) = says-no (λ e. differ (cc))
+
+unused-says : (p : Place) (head : List ℕ) → Says (tidyAt p head) (TidyAt p head)
+unused-says (Header n) head = same-says (drop n head) (replicate (headerSize - n) 0)
+unused-says (Reading n) head = says-yes tt
+unused-says (Skipping n) head = says-yes tt
+
+tidy-says : (r : Row) → Says (isTidy r) (Tidy r)
+tidy-says r =
+    says-of
+    (λ h. record { eight = h .0; unused = h .1 .0; freed = λ e. ⊎-elim (λ n. absurd (never (sym n ∙ e))) (λ p. p) (h .1 .1) })
+    (λ g. (g .eight, (g .unused, split (isFree r) (λ e. inr (g .freed e)) (λ e. inl e))))
+    (says-both (says-eq (length (r .head)) headerSize)
+    (says-both (unused-says (r .place) (r .head)) (says-either (says-not (isFree r)) (boundary-says (r .place)))))
 
 keeps-says : (own : FarmSheet) (r : Row) (st : RowState) → Says (rowKeeps own r st) (RowKeeps own r st)
 keeps-says own r Free = says-yes tt
@@ -102,6 +117,7 @@ record SeatOk (own : FarmSheet) (f : Farm) (i : ℕ) : Type 0 where
   young : atLimit (rowAt (f .rows) i) ≡ false
   asked : (isMarked (f .marks) i ≡ false) ⊎ (isAsked own f i ≡ true)
   possible : PossibleAt (rowAt (f .rows) i .place) (rowAt (f .rows) i .head)
+  tidy : Tidy (rowAt (f .rows) i)
 
 seat-says : (own : FarmSheet) (f : Farm) (i : ℕ) → Says (seatKeeps own f i) (SeatOk own f i)
 seat-says own f i =
@@ -115,15 +131,17 @@ seat-says own f i =
       lined = h .1 .1 .1 .0;
       young = h .1 .1 .1 .1 .0;
       asked = h .1 .1 .1 .1 .1 .0;
-      possible = h .1 .1 .1 .1 .1 .1;
+      possible = h .1 .1 .1 .1 .1 .1 .0;
+      tidy = h .1 .1 .1 .1 .1 .1 .1;
     })
-    (λ g. (g .within, (g .keeps, (g .once, (g .lined, (g .young, (g .asked, g .possible)))))))
+    (λ g. (g .within, (g .keeps, (g .once, (g .lined, (g .young, (g .asked, (g .possible, g .tidy))))))))
     (says-both (says-either (says-lt i (own .rows)) (says-not (isOpen r)))
     (says-both (keeps-says own r (r .state))
     (says-both (once-says (f .rows) (r .state))
     (says-both (says-eq (times i (f .line)) (one (isWaiting r)))
     (says-both (says-not (atLimit r))
-    (says-both (says-either (says-not (isMarked (f .marks) i)) (says-true (isAsked own f i))) (possible-says (r .place) (r .head))))))))
+    (says-both (says-either (says-not (isMarked (f .marks) i)) (says-true (isAsked own f i)))
+    (says-both (possible-says (r .place) (r .head)) (tidy-says r))))))))
 
 seats-say : (own : FarmSheet) (f : Farm) → Says (everySeat (seatKeeps own f)) ((i : ℕ) → i < seatCount → SeatOk own f i)
 unfolding everySeat
@@ -237,6 +255,7 @@ module _ (own : FarmSheet) (f : Farm) (p : Parts own f) where
         checkRuns = p .checkRuns;
         marksAsked = marked-asked;
         possible = λ i. seat-case (λ r. PossibleAt (r .place) (r .head)) i (λ s. s .possible) (λ _. omega arith);
+        tidy = λ i. seat-case Tidy i (λ s. s .tidy) (λ _. tidy-between Free);
       }
 
 module _ (own : FarmSheet) (f : Farm) (g : Good own f) where
@@ -250,6 +269,7 @@ module _ (own : FarmSheet) (f : Farm) (g : Good own f) where
         young = g .young i;
         asked = split (isMarked (f .marks) i) (λ e. inr (g .marksAsked i e)) (λ e. inl e);
         possible = g .possible i;
+        tidy = g .tidy i;
       }
 
   none-beyond : (i : ℕ) → seatCount ≤ i → times i (f .line) ≡ 0
