@@ -1,5 +1,5 @@
 -- Demand 2: "A tester's address is never active on two connections."
--- Assumes nothing; for histories, as a parameter, what another file proves: rule 4 is kept.
+-- Assumes nothing.
 use Prim.Native.Nat.{ℕ, zero, suc, _+_, _≤_, _<_}
 use mathlib.Core.Path.{_≡_, refl, sym, ap, subst, _∙_}
 use mathlib.Core.Bool.{Bool, true, false}
@@ -27,7 +27,7 @@ use Rattle.model.specs.Table.{Table, slot, goodTable}
 use Rattle.model.specs.History.{Made, fresh, run}
 use Rattle.model.proofs.Cases.{split}
 use Rattle.model.proofs.Rows.{count-some}
-use Rattle.model.proofs.TableTest.{table-says}
+use Rattle.model.proofs.TableTest.{table-says, history-test}
 
 -- ---- within a farm: what is counted once stands at one place
 
@@ -97,8 +97,8 @@ table-once s t k f g i j a x y =
 
 -- ---- of a history
 
-module _ (s : List ℕ) (rooms : List (List (List ℕ))) (keeps : (ms : List Made) → goodTable s (run s (fresh rooms) ms) ≡ true) where
-  -- THE SINGLE ADDRESS. "A tester's address is never active on two connections": after any history from a fresh table.
-  pub history-once : (ms : List Made) (f g i j a : ℕ) → activeAs a (rowAt (slot (run s (fresh rooms) ms) f .farm .rows) i) ≡ true
-      → activeAs a (rowAt (slot (run s (fresh rooms) ms) g .farm .rows) j) ≡ true → (f ≡ g) × (i ≡ j)
-  history-once ms f g i j a x y = table-once s (run s (fresh rooms) ms) (keeps ms) f g i j a x y
+-- THE SINGLE ADDRESS. "A tester's address is never active on two connections": after any history from a fresh table, under any sheet.
+pub history-once : (s : List ℕ) (rooms : List (List (List ℕ))) (ms : List Made) (f g i j a : ℕ)
+    → activeAs a (rowAt (slot (run s (fresh rooms) ms) f .farm .rows) i) ≡ true
+    → activeAs a (rowAt (slot (run s (fresh rooms) ms) g .farm .rows) j) ≡ true → (f ≡ g) × (i ≡ j)
+history-once s rooms ms f g i j a x y = table-once s (run s (fresh rooms) ms) (history-test s rooms ms) f g i j a x y

@@ -20,6 +20,7 @@ pub mod CalmChange
 pub mod CalmMove
 pub mod Keeps
 pub mod RuleTestLaws
+pub mod TableTest
 pub mod WindowAlone
 pub mod WindowTick
 pub mod Window
@@ -27,7 +28,6 @@ pub mod WindowRows
 pub mod WindowStream
 pub mod WindowRooms
 pub mod Neighbour
-pub mod TableTest
 pub mod TableRefuses
 pub mod Address
 pub mod Try

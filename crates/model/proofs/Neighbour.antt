@@ -1,8 +1,7 @@
 -- Demand 3, the neighbour clause: no farm can dry out its neighbour.
--- Assumes, as parameters, what other files prove: rule 4 is kept, and a farm's part of a tick is on its own rows.
+-- Assumes nothing.
 use Prim.Native.Nat.{ℕ, zero, suc, _≤_, _<_}
 use mathlib.Core.Path.{_≡_, refl, sym, ap, _∙_}
-use mathlib.Core.Bool.{Bool, true}
 use mathlib.Core.List.{List, [], _∷_}
 use native.Mathlib.Omega.{arith}
 use lib.ListN.{length, getD, replicate}
@@ -13,10 +12,10 @@ use Rattle.sheet.proofs.TestLaws.{good-says}
 use Rattle.model.specs.Row.{freeRow, rowAt}
 use Rattle.model.specs.Farm.{seatCount, newFarm}
 use Rattle.model.specs.Move.{Held}
-use Rattle.model.specs.Table.{Table, slot, goodTable}
+use Rattle.model.specs.Table.{Table, slot}
 use Rattle.model.specs.History.{Made, fresh, run, callsOf, hasOf}
+use Rattle.model.proofs.TableTest.{fresh-test}
 use Rattle.model.proofs.WindowAlone.{alone, heldAfter}
-use Rattle.model.proofs.WindowTick.{TickOwn}
 use Rattle.model.proofs.Window.{window, held-window}
 use Rattle.model.proofs.WindowStream.{agree-none}
 use Rattle.model.proofs.WindowRooms.{HeldAlike, alone-same}
@@ -34,20 +33,19 @@ fresh-slot [] g = refl
 fresh-slot (r ∷ rs) zero = refl
 fresh-slot (r ∷ rs) (suc g) = fresh-slot rs g
 
-module _ (s : List ℕ) (good : GoodSheet s) (tick-own : TickOwn s) (g : ℕ) (inSheet : g < farmCount s) (rooms : List (List (List ℕ)))
-    (inRooms : g < length rooms) (keeps : (ms : List Made) → goodTable s (run s (fresh rooms) ms) ≡ true) where
+module _ (s : List ℕ) (good : GoodSheet s) (g : ℕ) (inSheet : g < farmCount s) (rooms : List (List (List ℕ))) (inRooms : g < length rooms) where
   in-fresh : g < length (fresh rooms)
   in-fresh = omega (arith, fresh-length rooms)
 
   -- what farm g has of a history from a fresh table, and what it holds after it, is what it would have and hold alone
   pub has-alone : (ms : List Made) → hasOf s g (fresh rooms) ms ≡ alone s g (newHeld (getD rooms g [])) (callsOf s g (fresh rooms) ms)
   has-alone ms =
-      window s (good-says s .all good) tick-own g inSheet (fresh rooms) in-fresh keeps ms
+      window s (good-says s .all good) g inSheet (fresh rooms) in-fresh (fresh-test s rooms) ms
       ∙ ap (λ (h : Held). alone s g h (callsOf s g (fresh rooms) ms)) (fresh-slot rooms g)
 
   pub held-alone : (ms : List Made) → slot (run s (fresh rooms) ms) g ≡ heldAfter s g (newHeld (getD rooms g [])) (callsOf s g (fresh rooms) ms)
   held-alone ms =
-      held-window s (good-says s .all good) tick-own g inSheet (fresh rooms) in-fresh keeps ms
+      held-window s (good-says s .all good) g inSheet (fresh rooms) in-fresh (fresh-test s rooms) ms
       ∙ ap (λ (h : Held). heldAfter s g h (callsOf s g (fresh rooms) ms)) (fresh-slot rooms g)
 
   -- THE NEIGHBOUR CLAUSE. "two such histories under the same sheet that agree on one farm's calls and on the accepted ticks, in their order,
@@ -78,14 +76,13 @@ new-alike : (a b : List (List ℕ)) → SameShape a b → HeldAlike (newHeld a) 
 unfolding newFarm
 new-alike a b h = record { farm = refl; rooms = record { count = h .count; each = λ i. rw (new-row seatCount i) (agree-none (h .each i)) } }
 
-module _ (s : List ℕ) (good : GoodSheet s) (tick-own : TickOwn s) (g : ℕ) (inSheet : g < farmCount s) where
+module _ (s : List ℕ) (good : GoodSheet s) (g : ℕ) (inSheet : g < farmCount s) where
   -- THE NEIGHBOUR CLAUSE, whatever stood in the assembling buffers: what stands in a room before a message is read never matters, because every byte of a
   -- stored payload is written before it is looked at.
   pub neighbour-any : (a b : List (List (List ℕ))) → g < length a → g < length b → SameShape (getD a g []) (getD b g [])
-      → ((ms : List Made) → goodTable s (run s (fresh a) ms) ≡ true) → ((ns : List Made) → goodTable s (run s (fresh b) ns) ≡ true)
       → (ms ns : List Made) → callsOf s g (fresh a) ms ≡ callsOf s g (fresh b) ns → hasOf s g (fresh a) ms ≡ hasOf s g (fresh b) ns
-  neighbour-any a b ia ib shape ka kb ms ns e =
-      has-alone s good tick-own g inSheet a ia ka ms
+  neighbour-any a b ia ib shape ms ns e =
+      has-alone s good g inSheet a ia ms
       ∙ alone-same s g (callsOf s g (fresh a) ms) (newHeld (getD a g [])) (newHeld (getD b g [])) (new-alike (getD a g []) (getD b g []) shape)
       ∙ ap (alone s g (newHeld (getD b g []))) e
-      ∙ sym (has-alone s good tick-own g inSheet b ib kb ns)
+      ∙ sym (has-alone s good g inSheet b ib ns)

@@ -16,7 +16,9 @@ use Rattle.octets.proofs.ChoiceLaws.{says-both}
 use Rattle.model.specs.FarmSheet.{slotSheet}
 use Rattle.model.specs.Rule.{Good}
 use Rattle.model.specs.RuleTest.{goodFarm}
-use Rattle.model.specs.Table.{Table, slot, goodFrom, goodTable}
+use Rattle.model.specs.Table.{Table, slot, goodFrom, goodTable, Call, Lent, step, tableOf}
+use Rattle.model.specs.History.{Made, fresh, run}
+use Rattle.model.proofs.Keeps.{GoodAll, step-keeps, fresh-good, run-good}
 use Rattle.model.proofs.RuleTestLaws.{farm-says}
 
 -- ---- rule 4, of the whole table
@@ -48,6 +50,27 @@ table-says s t =
     says-of (λ x i l. subst (λ (f : ℕ). Good (slotSheet s f) (slot t i .farm)) (zero-add i) (x i l))
     (λ x i l. subst (λ (f : ℕ). Good (slotSheet s f) (slot t i .farm)) (sym (zero-add i)) (x i l))
     (from-says s 0 t)
+
+-- ---- rule 4 through a history
+
+-- the test and the rules slot by slot
+all-says : (s : List ℕ) (k : ℕ) (t : Table) → Says (goodFrom s k t) (GoodAll s k t)
+all-says s k [] = says-yes tt
+all-says s k (h ∷ t) = says-both (farm-says (slotSheet s k) (h .farm)) (all-says s (suc k) t)
+
+-- A CALL ON A TABLE THAT KEEPS RULE 4 leaves one that keeps it,
+pub step-test : (s : List ℕ) (l : Lent) (t : Table) (c : Call) → goodTable s t ≡ true → goodTable s (tableOf t (step s l t c)) ≡ true
+unfolding goodTable
+step-test s l t c k = all-says s 0 (tableOf t (step s l t c)) .all (step-keeps s l t c (all-says s 0 t .right k))
+
+-- a fresh table keeps it, and so REFUSAL 4 NEVER MEETS A HISTORY from a fresh table.
+pub fresh-test : (s : List ℕ) (rooms : List (List (List ℕ))) → goodTable s (fresh rooms) ≡ true
+unfolding goodTable
+fresh-test s rooms = all-says s 0 (fresh rooms) .all (fresh-good s 0 rooms)
+
+pub history-test : (s : List ℕ) (rooms : List (List (List ℕ))) (ms : List Made) → goodTable s (run s (fresh rooms) ms) ≡ true
+unfolding goodTable
+history-test s rooms ms = all-says s 0 (run s (fresh rooms) ms) .all (run-good s (fresh rooms) ms (fresh-good s 0 rooms))
 
 -- ---- "Checked in this order; the first that applies is given."
 

@@ -1,5 +1,5 @@
 -- The window: what farm g has of a history is what it would have alone, of its own calls and the accepted ticks.
--- Assumes, as parameters, what other files prove: rule 4 is kept, and a farm's part of a tick is on its own rows.
+-- Assumes nothing.
 use Prim.Native.Nat.{ℕ, zero, suc, _+_, _≤_, _<_}
 use mathlib.Core.Path.{_≡_, refl, sym, ap, ap₂, subst, _∙_}
 use mathlib.Core.Bool.{Bool, true, false}
@@ -19,8 +19,9 @@ use Rattle.model.specs.Move.{Own, Held, Given, Move, refused, gave, noRo
 use Rattle.model.specs.Table.{Table, noHeld, slot, goodFrom, goodTable, Call, Lent, leastOutput, assemblingSize, Whose, nobodys, farms, everyones, whose, Outcome, refuses, did, movedTo, heldBy, itemsBy, tickTable, tickItems, called, step, numberOf, rowOf, tookOf, itemsOf, longOf, tableOf}
 use Rattle.model.specs.History.{Made, stepOf, run, onRow, keep, repliesBy, Has, has, countsBy, counts, seenBy, seen, callsOf, hasOf}
 use Rattle.model.proofs.Cases.{split}
+use Rattle.model.proofs.TableTest.{step-test}
 use Rattle.model.proofs.WindowAlone.{ifRoom, aloneBy, aloneMove, hasBy, alone, heldAfter}
-use Rattle.model.proofs.WindowTick.{TickOwn, part-of, tick-slot}
+use Rattle.model.proofs.WindowTick.{part-of, tick-slot}
 
 -- ---- what is lent is looked at first
 
@@ -67,7 +68,7 @@ pub step-length : (s : List ℕ) (t : Table) → goodSheet s ≡ true → goodTa
 step-length s t q k l c =
     rw (step-is s t q k l c) (room-case (λ o. length (tableOf t o) ≡ length t) l (called s t (whose s c)) refl refl (called-length s t (whose s c)))
 
-module _ (s : List ℕ) (q : goodSheet s ≡ true) (tick-own : TickOwn s) (g : ℕ) (inSheet : g < farmCount s) where
+module _ (s : List ℕ) (q : goodSheet s ≡ true) (g : ℕ) (inSheet : g < farmCount s) where
   -- ---- a call, seen from farm g
 
   abbrev hasIn : Table → Whose → Outcome → Has
@@ -107,8 +108,8 @@ module _ (s : List ℕ) (q : goodSheet s ≡ true) (tick-own : TickOwn s) (g : �
       tick-did : Part t everyones (called s t everyones) (tickMove (slotSheet s g) (slot t g))
       unfolding tickMove goodTable
       tick-did =
-          let a = tick-slot s tick-own g inSheet 0 g t (zero-add g) inTable in
-          let b = part-of s tick-own g inSheet 0 g t (zero-add g) inTable k in
+          let a = tick-slot s g inSheet 0 g t (zero-add g) inTable in
+          let b = part-of s g inSheet 0 g t (zero-add g) inTable k in
           mine refl (rw (b, a)) a
 
       part : (l : Lent) (w : Whose) → Part t w (ifRoom l refuses (called s t w)) (aloneBy (slotSheet s g) (slot t g) l w)
@@ -151,28 +152,18 @@ module _ (s : List ℕ) (q : goodSheet s ≡ true) (tick-own : TickOwn s) (g : �
 
   -- ---- a history
 
-  -- rule 4 never fires in a history from this table
-  abbrev pub Keeps : Table → Type 0
-  Keeps t = (ms : List Made) → goodTable s (run s t ms) ≡ true
+  keeps-on : (t : Table) → goodTable s t ≡ true → (m : Made) → goodTable s (tableOf t (stepOf s t m)) ≡ true
+  keeps-on t k m = step-test s (m .lent) t (m .call) k
 
-  -- one call on: rule 4 still never fires, and there are as many slots
-  keeps-on : (t : Table) → Keeps t → (m : Made) → Keeps (tableOf t (stepOf s t m))
-  unfolding run
-  keeps-on t keeps m ms = keeps (m ∷ ms)
-
-  keeps-now : (t : Table) → Keeps t → goodTable s t ≡ true
-  unfolding run
-  keeps-now t keeps = keeps []
-
-  slots-on : (t : Table) → g < length t → Keeps t → (m : Made) → g < length (tableOf t (stepOf s t m))
-  slots-on t h keeps m = omega (arith, step-length s t q (keeps-now t keeps) (m .lent) (m .call))
+  slots-on : (t : Table) → g < length t → goodTable s t ≡ true → (m : Made) → g < length (tableOf t (stepOf s t m))
+  slots-on t h k m = omega (arith, step-length s t q k (m .lent) (m .call))
 
   -- THE WINDOW: what farm g has of a history is what it would have alone, of its own calls and the accepted ticks.
-  pub window : (t : Table) → g < length t → Keeps t → (ms : List Made) → hasOf s g t ms ≡ alone s g (slot t g) (callsOf s g t ms)
+  pub window : (t : Table) → g < length t → goodTable s t ≡ true → (ms : List Made) → hasOf s g t ms ≡ alone s g (slot t g) (callsOf s g t ms)
   unfolding hasOf callsOf alone
-  window t h keeps [] = refl
-  window t h keeps (m ∷ ms) =
-      by (call-of t h (keeps-now t keeps) m) (window (tableOf t (stepOf s t m)) (slots-on t h keeps m) (keeps-on t keeps m) ms)
+  window t h k [] = refl
+  window t h k (m ∷ ms) =
+      by (call-of t h k m) (window (tableOf t (stepOf s t m)) (slots-on t h k m) (keeps-on t k m) ms)
     where
       by : Call-of t m
           → hasOf s g (tableOf t (stepOf s t m)) ms ≡ alone s g (slot (tableOf t (stepOf s t m)) g) (callsOf s g (tableOf t (stepOf s t m)) ms)
@@ -182,11 +173,11 @@ module _ (s : List ℕ) (q : goodSheet s ≡ true) (tick-own : TickOwn s) (g : �
       by (passed c b) ih = rw c (rw b at ih)
 
   -- what farm g holds after a history is what it would hold alone
-  pub held-window : (t : Table) → g < length t → Keeps t → (ms : List Made) → slot (run s t ms) g ≡ heldAfter s g (slot t g) (callsOf s g t ms)
+  pub held-window : (t : Table) → g < length t → goodTable s t ≡ true → (ms : List Made) → slot (run s t ms) g ≡ heldAfter s g (slot t g) (callsOf s g t ms)
   unfolding run callsOf heldAfter
-  held-window t h keeps [] = refl
-  held-window t h keeps (m ∷ ms) =
-      by (call-of t h (keeps-now t keeps) m) (held-window (tableOf t (stepOf s t m)) (slots-on t h keeps m) (keeps-on t keeps m) ms)
+  held-window t h k [] = refl
+  held-window t h k (m ∷ ms) =
+      by (call-of t h k m) (held-window (tableOf t (stepOf s t m)) (slots-on t h k m) (keeps-on t k m) ms)
     where
       by : Call-of t m
           → slot (run s (tableOf t (stepOf s t m)) ms) g ≡ heldAfter s g (slot (tableOf t (stepOf s t m)) g) (callsOf s g (tableOf t (stepOf s t m)) ms)

@@ -1,5 +1,5 @@
 -- A tick, seen from one farm: its slot is moved by its own tick, and of the entries those on its rows are its own.
--- Assumes, as a parameter, what another file proves: a farm's part of a tick is on its own rows.
+-- Assumes nothing.
 use Prim.Native.Nat.{ℕ, zero, suc, _+_, _-_, _≤_, _<_}
 use mathlib.Core.Path.{_≡_, refl, sym, ap, subst, _∙_}
 use mathlib.Core.Bool.{Bool, true, false}
@@ -14,14 +14,14 @@ use Rattle.kinds.specs.declared.Item.{Item}
 use Rattle.sheet.specs.Sheet.{farmCount}
 use Rattle.sheet.specs.Rows.{rowsOwned, firstRow}
 use Rattle.sheet.proofs.RowsLaws.{rows-apart}
-use Rattle.model.specs.FarmSheet.{farmSheet, slotSheet}
+use Rattle.model.specs.FarmSheet.{FarmSheet, farmSheet, slotSheet}
 use Rattle.model.specs.Move.{Held, tickMove}
-use Rattle.model.specs.Rule.{Good}
 use Rattle.model.specs.RuleTest.{goodFarm}
 use Rattle.model.specs.Table.{Table, slot, goodFrom, heldBy, itemsBy, slotTick, tickTable, tickItems}
 use Rattle.model.specs.History.{onRow, keep}
 use Rattle.model.proofs.Cases.{split}
 use Rattle.model.proofs.RuleTestLaws.{farm-says}
+use Rattle.model.proofs.SoundMain.{tick-items-own}
 
 -- ---- entries on a farm's rows
 
@@ -72,15 +72,11 @@ other-row s f g hf hg ne it e =
     (λ d. d)
 
 -- a farm's part of a tick is on its own rows
-abbrev pub TickOwn : List ℕ → Type 0
-TickOwn s =
-    (f : ℕ) (h : Held) → f < farmCount s → Good (slotSheet s f) (h .farm)
-    → all (onRow (slotSheet s f)) (itemsBy (tickMove (slotSheet s f) h)) ≡ true
+tick-own : (own : FarmSheet) (h : Held) → goodFarm own (h .farm) ≡ true → all (onRow own) (itemsBy (tickMove own h)) ≡ true
+unfolding tickMove
+tick-own own h e = tick-items-own (h .farm) (farm-says own (h .farm) .right e)
 
-module _ (s : List ℕ) (tick-own : TickOwn s) (g : ℕ) (inSheet : g < farmCount s) where
-  good-slot : (f : ℕ) (h : Held) → goodFarm (slotSheet s f) (h .farm) ≡ true → Good (slotSheet s f) (h .farm)
-  good-slot f h e = farm-says (slotSheet s f) (h .farm) .right e
-
+module _ (s : List ℕ) (g : ℕ) (inSheet : g < farmCount s) where
   -- the part of another slot has no entry on its rows
   other-part : (f : ℕ) (h : Held) → (f ≡ g → ⊥) → goodFarm (slotSheet s f) (h .farm) ≡ true
       → keep (onRow (slotSheet s g)) (itemsBy (slotTick s f h)) ≡ []
@@ -89,7 +85,7 @@ module _ (s : List ℕ) (tick-own : TickOwn s) (g : ℕ) (inSheet : g < farmCoun
       (λ l.
       let k : f < farmCount s = ltb-true f (farmCount s) l in
       rw l
-      (keep-none (onRow (slotSheet s g)) (onRow (slotSheet s f)) (other-row s f g k inSheet ne) (itemsBy (tickMove (slotSheet s f) h)) (tick-own f h k (good-slot f h e))))
+      (keep-none (onRow (slotSheet s g)) (onRow (slotSheet s f)) (other-row s f g k inSheet ne) (itemsBy (tickMove (slotSheet s f) h)) (tick-own (slotSheet s f) h e)))
       (λ l. rw l)
 
   own-tick : (h : Held) → slotTick s g h ≡ tickMove (slotSheet s g) h
@@ -97,7 +93,7 @@ module _ (s : List ℕ) (tick-own : TickOwn s) (g : ℕ) (inSheet : g < farmCoun
 
   own-part : (h : Held) → goodFarm (slotSheet s g) (h .farm) ≡ true
       → keep (onRow (slotSheet s g)) (itemsBy (slotTick s g h)) ≡ itemsBy (tickMove (slotSheet s g) h)
-  own-part h e = rw (own-tick h) (keep-all (onRow (slotSheet s g)) (itemsBy (tickMove (slotSheet s g) h)) (tick-own g h inSheet (good-slot g h e)))
+  own-part h e = rw (own-tick h) (keep-all (onRow (slotSheet s g)) (itemsBy (tickMove (slotSheet s g) h)) (tick-own (slotSheet s g) h e))
 
   -- slots from k on, all behind farm g
   none-behind : (k : ℕ) (t : Table) → g < k → goodFrom s k t ≡ true → keep (onRow (slotSheet s g)) (tickItems s k t) ≡ []
