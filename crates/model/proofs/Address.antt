@@ -1,13 +1,13 @@
 -- Demand 2: "A tester's address is never active on two connections."
 -- Assumes nothing.
-use Prim.Native.Nat.{ℕ, zero, suc, _+_, _≤_, _<_}
+use Prim.Native.Nat.{ℕ, zero, suc, _≤_, _<_}
 use mathlib.Core.Path.{_≡_, refl, sym, ap, subst, _∙_}
 use mathlib.Core.Bool.{Bool, true, false}
 use mathlib.Core.List.{List, [], _∷_}
 use native.Mathlib.Omega.{arith}
-use lib.Dec.{eqb, ltb}
-use lib.ListN.{length, getD, replicate}
-use borrow.Author.Tests.{eqb-true, ltb-true}
+use lib.Dec.{ltb}
+use lib.ListN.{length}
+use borrow.Author.Tests.{eqb-true}
 use Rattle.octets.specs.Choice.{pick, one}
 use Rattle.octets.specs.Search.{countIf}
 use Rattle.octets.proofs.SaysLaws.{never}
@@ -19,14 +19,12 @@ use Rattle.sheet.specs.declared.find.Found.the-variants.{Is, Nobody}
 use Rattle.sheet.specs.Sheet.{farmCount, testersOf}
 use Rattle.sheet.specs.Find.{lookup}
 use Rattle.model.specs.FarmSheet.{FarmSheet, testerBy, farmSheet, noFarm, slotSheet}
-use Rattle.model.specs.Row.{freeRow, rowAt, activeAs, activeAsState}
+use Rattle.model.specs.Row.{rowAt, activeAs, activeAsState}
 use Rattle.model.specs.Farm.{Farm, seatCount, newFarm}
-use Rattle.model.specs.Move.{Held}
 use Rattle.model.specs.Rule.{RowKeeps, Good}
 use Rattle.model.specs.Table.{Table, slot, goodTable}
 use Rattle.model.specs.History.{Made, fresh, run}
-use Rattle.model.proofs.Cases.{split}
-use Rattle.model.proofs.Rows.{count-some}
+use Rattle.model.proofs.Rows.{count-some, row-free}
 use Rattle.model.proofs.TableTest.{table-says, history-test}
 
 -- ---- within a farm: what is counted once stands at one place
@@ -77,15 +75,10 @@ address-once s farm f g p q i j a x y =
 
 -- ---- of a table
 
-free-at : (n i : ℕ) → rowAt (replicate n freeRow) i ≡ freeRow
-free-at zero i = refl
-free-at (suc n) zero = refl
-free-at (suc n) (suc i) = free-at n i
-
 -- no row is active where there is no slot
 pub active-slot : (t : Table) (f i a : ℕ) → activeAs a (rowAt (slot t f .farm .rows) i) ≡ true → f < length t
 unfolding newFarm
-active-slot [] f i a e = absurd (never (sym (ap (activeAs a) (free-at seatCount i)) ∙ e))
+active-slot [] f i a e = absurd (never (sym (ap (activeAs a) (row-free seatCount i)) ∙ e))
 active-slot (h ∷ t) zero i a e = omega arith
 active-slot (h ∷ t) (suc f) i a e = omega (arith, active-slot t f i a e)
 

@@ -1,19 +1,18 @@
 -- Demand 3, the neighbour clause: no farm can dry out its neighbour.
 -- Assumes nothing.
-use Prim.Native.Nat.{ℕ, zero, suc, _≤_, _<_}
+use Prim.Native.Nat.{ℕ, zero, suc, _<_}
 use mathlib.Core.Path.{_≡_, refl, sym, ap, _∙_}
 use mathlib.Core.List.{List, [], _∷_}
 use native.Mathlib.Omega.{arith}
-use lib.ListN.{length, getD, replicate}
+use lib.ListN.{length, getD}
 use Rattle.sheet.specs.Sheet.{farmCount}
 use Rattle.sheet.specs.Rules.{GoodSheet}
-use Rattle.sheet.specs.Test.{goodSheet}
 use Rattle.sheet.proofs.TestLaws.{good-says}
-use Rattle.model.specs.Row.{freeRow, rowAt}
 use Rattle.model.specs.Farm.{seatCount, newFarm}
 use Rattle.model.specs.Move.{Held}
-use Rattle.model.specs.Table.{Table, slot}
+use Rattle.model.specs.Table.{slot}
 use Rattle.model.specs.History.{Made, fresh, run, callsOf, hasOf}
+use Rattle.model.proofs.Rows.{row-free}
 use Rattle.model.proofs.TableTest.{fresh-test}
 use Rattle.model.proofs.WindowAlone.{alone, heldAfter}
 use Rattle.model.proofs.Window.{window, held-window}
@@ -66,15 +65,10 @@ pub record SameShape (a b : List (List ℕ)) : Type 0 where
   pub count : length a ≡ length b
   pub each : (i : ℕ) → length (getD a i []) ≡ length (getD b i [])
 
-new-row : (n i : ℕ) → rowAt (replicate n freeRow) i ≡ freeRow
-new-row zero i = refl
-new-row (suc n) zero = refl
-new-row (suc n) (suc i) = new-row n i
-
 -- a new farm has no message in hand
 new-alike : (a b : List (List ℕ)) → SameShape a b → HeldAlike (newHeld a) (newHeld b)
 unfolding newFarm
-new-alike a b h = record { farm = refl; rooms = record { count = h .count; each = λ i. rw (new-row seatCount i) (agree-none (h .each i)) } }
+new-alike a b h = record { farm = refl; rooms = record { count = h .count; each = λ i. rw (row-free seatCount i) (agree-none (h .each i)) } }
 
 module _ (s : List ℕ) (good : GoodSheet s) (g : ℕ) (inSheet : g < farmCount s) where
   -- THE NEIGHBOUR CLAUSE, whatever stood in the assembling buffers: what stands in a room before a message is read never matters, because every byte of a

@@ -1,23 +1,22 @@
 -- Rule 4's test says the same as the record `Good`. The test asks only the seats that there are; beyond them every row is free.
 -- Assumes nothing.
 use Prim.{Unit}
-use Prim.Native.Nat.{ℕ, zero, suc, _+_, _-_, _≤_, _<_}
+use Prim.Native.Nat.{ℕ, suc, _+_, _-_, _≤_, _<_}
 use mathlib.Core.Path.{_≡_, refl, sym, ap, subst, _∙_}
-use mathlib.Core.Bool.{Bool, true, false, not}
+use mathlib.Core.Bool.{Bool, true, false}
 use mathlib.Core.List.{List, [], _∷_}
 use mathlib.Core.Logic.{_⊎_, inl, inr, ⊎-elim}
 use native.Mathlib.Omega.{arith}
-use lib.Dec.{eqb, leb, ltb}
-use lib.ListN.{length, getD, drop, replicate, List·getD-eq-default}
+use lib.Dec.{eqb, ltb}
+use lib.ListN.{length, drop, replicate, List·getD-eq-default}
 use borrow.Author.Tests.{eqb-true, eq-eqb, ne-eqb, ltb-true, ltb-false}
-use Rattle.octets.specs.Choice.{both, one}
+use Rattle.octets.specs.Choice.{one}
 use Rattle.octets.specs.Says.{Says}
 use Rattle.octets.specs.Search.{countIf, all}
 use Rattle.octets.proofs.SaysLaws.{never, says-yes, says-no, says-of}
 use Rattle.octets.proofs.ChoiceLaws.{says-both, says-either, says-not, says-true, says-le, says-lt, says-eq}
 use Rattle.octets.proofs.FoldLaws.{every-says}
 use Rattle.octets.proofs.SearchLaws.{same-says}
-use Rattle.kinds.specs.declared.Fault.{Fault}
 use Rattle.kinds.specs.declared.Fault.the-variants.{Pattern, UnknownType, TooLong, WrongLength}
 use Rattle.kinds.specs.declared.Verdict.{Verdict}
 use Rattle.kinds.specs.declared.Verdict.the-variants.{Passes, Wrong}
@@ -34,7 +33,7 @@ use Rattle.model.specs.Row.{checkLimit, boundary, freeRow, rowAt, isFree
 use Rattle.model.specs.Farm.{Farm, seatCount}
 use Rattle.model.specs.Line.{isMarked, isAsked, headVerdict}
 use Rattle.model.specs.Rule.{times, PossibleAt, TidyAt, Tidy, RowKeeps, HeadKeeps, Good}
-use Rattle.model.specs.RuleTest.{everySeat, passes, isSkipFault, isSkipped, possibleAt, isBoundary, tidyAt, isTidy, rowKeeps, activeOnceBy, isPending, headKeeps, seatKeeps, goodFarm}
+use Rattle.model.specs.RuleTest.{everySeat, passes, isSkipped, possibleAt, isBoundary, tidyAt, isTidy, rowKeeps, activeOnceBy, isPending, headKeeps, seatKeeps, goodFarm}
 use Rattle.model.proofs.Cases.{split}
 use Rattle.model.proofs.TidyRows.{tidy-between}
 

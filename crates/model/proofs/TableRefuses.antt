@@ -2,8 +2,8 @@
 -- list's order; `Refusals` says of each number when it is given.
 -- Assumes nothing.
 use Prim.{Unit}
-use Prim.Native.Nat.{ℕ, zero, suc, _+_, _≤_, _<_}
-use mathlib.Core.Path.{_≡_, refl, sym, ap, subst, _∙_}
+use Prim.Native.Nat.{ℕ, zero, suc, _≤_, _<_}
+use mathlib.Core.Path.{_≡_, refl, sym, _∙_}
 use mathlib.Core.Bool.{Bool, true, false, not}
 use mathlib.Core.List.{List, [], _∷_}
 use mathlib.Core.Logic.{_↔_}
@@ -28,12 +28,10 @@ use Rattle.sheet.specs.Rows.{ownerOf}
 use Rattle.sheet.specs.Rules.{GoodSheet}
 use Rattle.sheet.specs.Test.{goodSheet}
 use Rattle.sheet.proofs.TestLaws.{good-says}
-use Rattle.model.specs.FarmSheet.{FarmSheet, slotSheet}
+use Rattle.model.specs.FarmSheet.{slotSheet}
 use Rattle.model.specs.Row.{freeRow, rowAt, isFree, isOpen, isWaiting, activeAs}
-use Rattle.model.specs.Farm.{Farm}
-use Rattle.model.specs.Move.{Own, connect, bytes, peerClosed, linkLost, datagram, controller, Held, Move, refused, gave, connectedAt, connects, bytesBy, peerGone, moves, linkGone, datagramMove, mostUser, isTarget, toTester, controllerMove, move}
-use Rattle.model.specs.Table.{Table, slot, goodTable, Call, connectTo, bytesFrom, peerClosedOn, linkLostOf, tick, datagramTo, messageFrom, Lent, leastOutput, assemblingSize, Whose, nobodys, farms, everyones, ofFarm, ofOwner, whose, Outcome, refuses, did, movedTo, called, ifLent, step, startStep, renewed, numberOf}
-use Rattle.model.proofs.Cases.{split}
+use Rattle.model.specs.Move.{Own, connect, bytes, peerClosed, linkLost, datagram, controller, Held, Move, refused, noRow, connectedAt, connects, bytesBy, peerGone, moves, datagramMove, mostUser, isTarget, toTester, controllerMove, move}
+use Rattle.model.specs.Table.{Table, slot, goodTable, Call, connectTo, bytesFrom, peerClosedOn, linkLostOf, tick, datagramTo, messageFrom, Lent, leastOutput, assemblingSize, nobodys, farms, ofOwner, whose, Outcome, refuses, did, movedTo, called, step, startStep, numberOf, rowOf, tookOf, itemsOf, longOf, tableOf}
 use Rattle.model.proofs.TableTest.{TableKeeps, table-says, FirstBroken, next, firstFailed, Tests, none, also, first-broken}
 
 -- ---- a row that passes a test, among the first n of a list
@@ -294,18 +292,32 @@ module _ (s : List ℕ) where
           let d = first-broken (lent-tests none) n in
           (λ e. d .0 (sym start-number ∙ e), λ h. start-number ∙ d .1 h)
 
--- ---- the same, number by number
+-- ---- "A refusal returns its number, output length 0, bytes taken 0, row 255. Table and buffers stay byte for byte."
+
+pub record Unchanged (t : Table) (o : Outcome) : Type 0 where
+  pub row : rowOf o ≡ noRow
+  pub took : tookOf o ≡ 0
+  pub items : itemsOf o ≡ []
+  pub long : longOf o ≡ []
+  pub table : tableOf t o ≡ t
+
+-- A REFUSED CALL CHANGES NOTHING, whatever its number.
+pub refused-unchanged : (t : Table) (o : Outcome) → (numberOf o ≡ 0 → ⊥) → Unchanged t o
+refused-unchanged t (refuses n) h = record { row = refl; took = refl; items = refl; long = refl; table = refl }
+refused-unchanged t (did d) h = absurd (h refl)
+
+-- ---- each number by itself
 
 module _ (s : List ℕ) (l : Lent) (t : Table) (c : Call) where
-  abbrev Answer : ℕ → Type 0
+  abbrev pub Answer : ℕ → Type 0
   Answer n = numberOf (step s l t c) ≡ n
 
   -- rules 1 to 4 are kept, and then
-  abbrev Past4 : Type 0 → Type 0
+  abbrev pub Past4 : Type 0 → Type 0
   Past4 X = GoodSheet s × ((leastOutput ≤ l .output) × ((l .assembling ≡ assemblingSize) × (TableKeeps s t × X)))
 
   -- rules 1 to 7 are kept, and then
-  abbrev Past7 : Type 0 → Type 0
+  abbrev pub Past7 : Type 0 → Type 0
   Past7 X = Past4 (FarmKnown s c × (RowOpen s t c × (NotWaiting s t c × X)))
 
 pub record Refusals (s : List ℕ) (l : Lent) (t : Table) (c : Call) : Type 0 where

@@ -1,8 +1,8 @@
 -- The test of rule 4 over the whole table, and a list of rules of which the first that is broken is told.
 -- Assumes nothing.
 use Prim.{Unit}
-use Prim.Native.Nat.{ℕ, zero, suc, _+_, _≤_, _<_}
-use mathlib.Core.Path.{_≡_, refl, sym, ap, subst, _∙_}
+use Prim.Native.Nat.{ℕ, zero, suc, _+_, _<_}
+use mathlib.Core.Path.{_≡_, refl, sym, ap, subst}
 use mathlib.Core.Bool.{Bool, true, false}
 use mathlib.Core.List.{List, [], _∷_}
 use mathlib.Core.Logic.{_↔_}
@@ -15,7 +15,6 @@ use Rattle.octets.proofs.SaysLaws.{never, says-yes, says-of}
 use Rattle.octets.proofs.ChoiceLaws.{says-both}
 use Rattle.model.specs.FarmSheet.{slotSheet}
 use Rattle.model.specs.Rule.{Good}
-use Rattle.model.specs.RuleTest.{goodFarm}
 use Rattle.model.specs.Table.{Table, slot, goodFrom, goodTable, Call, Lent, step, tableOf}
 use Rattle.model.specs.History.{Made, fresh, run}
 use Rattle.model.proofs.Keeps.{GoodAll, step-keeps, fresh-good, run-good}

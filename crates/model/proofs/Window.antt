@@ -1,23 +1,22 @@
 -- The window: what farm g has of a history is what it would have alone, of its own calls and the accepted ticks.
 -- Assumes nothing.
-use Prim.Native.Nat.{ℕ, zero, suc, _+_, _≤_, _<_}
+use Prim.Native.Nat.{ℕ, suc, _<_}
 use mathlib.Core.Path.{_≡_, refl, sym, ap, ap₂, subst, _∙_}
 use mathlib.Core.Bool.{Bool, true, false}
 use mathlib.Core.List.{List, [], _∷_}
-use mathlib.Core.Option.{Option, none, some}
 use native.Mathlib.Nat.{zero-add}
 use native.Mathlib.Omega.{arith}
 use lib.Dec.{eqb, leb}
-use lib.ListN.{length, getD, set, length-set}
+use lib.ListN.{length, set, length-set}
 use lib.Seq.{getD-set-same, getD-set-other}
 use borrow.Author.Tests.{eqb-true, eqb-false, eq-eqb}
 use Rattle.octets.specs.Choice.{pick, unless}
 use Rattle.sheet.specs.Sheet.{farmCount}
 use Rattle.sheet.specs.Test.{goodSheet}
-use Rattle.model.specs.FarmSheet.{FarmSheet, slotSheet}
-use Rattle.model.specs.Move.{Own, Held, Given, Move, refused, gave, noRow, moves, move, tickMove}
-use Rattle.model.specs.Table.{Table, noHeld, slot, goodFrom, goodTable, Call, Lent, leastOutput, assemblingSize, Whose, nobodys, farms, everyones, whose, Outcome, refuses, did, movedTo, heldBy, itemsBy, tickTable, tickItems, called, step, numberOf, rowOf, tookOf, itemsOf, longOf, tableOf}
-use Rattle.model.specs.History.{Made, stepOf, run, onRow, keep, repliesBy, Has, has, countsBy, counts, seenBy, seen, callsOf, hasOf}
+use Rattle.model.specs.FarmSheet.{slotSheet}
+use Rattle.model.specs.Move.{Own, Held, Move, refused, gave, move, tickMove}
+use Rattle.model.specs.Table.{Table, noHeld, slot, goodTable, Call, Lent, leastOutput, assemblingSize, Whose, nobodys, farms, everyones, whose, Outcome, refuses, movedTo, heldBy, tickTable, called, step, numberOf, rowOf, tookOf, itemsOf, longOf, tableOf}
+use Rattle.model.specs.History.{Made, stepOf, run, repliesBy, Has, has, countsBy, counts, seenBy, seen, callsOf, hasOf}
 use Rattle.model.proofs.Cases.{split}
 use Rattle.model.proofs.TableTest.{step-test}
 use Rattle.model.proofs.WindowAlone.{ifRoom, aloneBy, aloneMove, hasBy, alone, heldAfter}

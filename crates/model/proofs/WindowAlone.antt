@@ -6,7 +6,7 @@ use mathlib.Core.Option.{Option, none, some}
 use lib.Dec.{eqb, leb}
 use Rattle.octets.specs.Choice.{unless}
 use Rattle.model.specs.FarmSheet.{FarmSheet, slotSheet}
-use Rattle.model.specs.Move.{Held, Given, Move, refused, gave, noRow, move, tickMove}
+use Rattle.model.specs.Move.{Held, Move, refused, gave, noRow, move, tickMove}
 use Rattle.model.specs.Table.{Lent, leastOutput, assemblingSize, Whose, nobodys, farms, everyones, whose, heldBy}
 use Rattle.model.specs.History.{Made, Has}
 

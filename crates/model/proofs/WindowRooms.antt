@@ -1,15 +1,15 @@
 -- A farm alone, over two assembling buffers of one shape: it has the same, whatever stood in them.
 -- Assumes nothing.
-use Prim.Native.Nat.{ℕ, zero, suc, _+_, _≤_, _<_}
+use Prim.Native.Nat.{ℕ, _≤_, _<_}
 use mathlib.Core.Path.{_≡_, refl, sym, ap, ap₂, subst, _∙_}
 use mathlib.Core.Bool.{Bool, true, false}
-use mathlib.Core.List.{List, [], _∷_, map}
+use mathlib.Core.List.{List, [], _∷_}
 use mathlib.Core.Option.{Option, none, some}
 use native.Mathlib.Omega.{arith}
 use lib.Dec.{eqb, leb, ltb}
 use lib.ListN.{length, getD, set, take, length-set, List·getD-eq-default}
 use lib.Seq.{getD-set-same, getD-set-other}
-use borrow.Author.Tests.{eqb-true, eqb-false, ltb-true, ltb-false}
+use borrow.Author.Tests.{ltb-true, ltb-false}
 use Rattle.octets.specs.declared.Found.{Found}
 use Rattle.octets.specs.declared.Found.the-variants.{At, Nothing}
 use Rattle.octets.specs.Choice.{pick, unless}
@@ -20,17 +20,17 @@ use Rattle.kinds.specs.declared.RowState.the-variants.{Free, Fresh, Waiting, Ac
 use Rattle.kinds.specs.declared.Row.{Row}
 use Rattle.model.specs.FarmSheet.{FarmSheet, slotSheet}
 use Rattle.model.specs.Row.{clockOf, rowOf, rowAt, isOpen, isOpenState, activeAs, older, isFree}
-use Rattle.model.specs.Stream.{Event, inputEnded, wrong, finished, skipped, streamOf, Taken, taken, takes, endedBy}
-use Rattle.model.specs.Farm.{Farm, Done, andThen, withRow, withMeters}
+use Rattle.model.specs.Stream.{Event, inputEnded, wrong, finished, skipped, streamOf, Taken, taken, endedBy}
+use Rattle.model.specs.Farm.{Farm, Done, andThen, withRow}
 use Rattle.model.specs.Line.{settle}
-use Rattle.model.specs.Bytes.{eventDone, heardRow, heard, takenBy, payloadBy, bytesDone}
+use Rattle.model.specs.Bytes.{eventDone, heard, takenBy, payloadBy, bytesDone}
 use Rattle.model.specs.Move.{Own, connect, bytes, peerClosed, linkLost, datagram, controller, Held, Given, Move, refused, gave, moves, connectedAt, connects, tookBytes, bytesBy, peerGone, linkGone, clockRun, aged, ticked, datagramMove, mostUser, isTarget, toTester, controllerMove, move, tickMove}
 use Rattle.model.specs.Table.{Lent, leastOutput, assemblingSize, Whose, nobodys, farms, everyones, whose, heldBy}
 use Rattle.model.specs.History.{Made, Has}
 use Rattle.model.proofs.Cases.{split}
 use Rattle.model.proofs.Rows.{row-put, row-set, row-map, open-in}
 use Rattle.model.proofs.Seats.{then-keeps}
-use Rattle.model.proofs.WindowAlone.{ifRoom, aloneBy, aloneMove, hasBy, alone}
+use Rattle.model.proofs.WindowAlone.{aloneBy, aloneMove, hasBy, alone}
 use Rattle.model.proofs.WindowRows.{settle-keeps, event-keeps, peer-keeps, link-keeps, tick-keeps}
 use Rattle.model.proofs.WindowStream.{Agree, storedAt, agree-none, takes-alike, event-same}
 

@@ -2,32 +2,30 @@
 -- kept by closing, answering, joining, leaving, marking, settling and ticking.
 -- Assumes nothing.
 use Prim.Native.Nat.{ℕ}
-use mathlib.Core.Path.{_≡_, refl, sym, ap, _∙_}
-use mathlib.Core.Bool.{Bool, true, false}
+use mathlib.Core.Path.{_≡_, refl}
+use mathlib.Core.Bool.{Bool}
 use mathlib.Core.List.{List, [], _∷_, _++_}
 use lib.Dec.{eqb}
-use lib.ListN.{set, take}
-use Rattle.octets.specs.Choice.{pick, both}
+use lib.ListN.{take}
+use Rattle.octets.specs.Choice.{both}
 use Rattle.kinds.specs.declared.RowState.{RowState}
-use Rattle.kinds.specs.declared.Check.{Check}
 use Rattle.kinds.specs.declared.Decision.{Decision}
 use Rattle.kinds.specs.declared.Decision.the-variants.{Now, Ask}
 use Rattle.kinds.specs.declared.HeadVerdict.{HeadVerdict}
 use Rattle.kinds.specs.declared.HeadVerdict.the-variants.{Pending, Answer, RunOut}
 use Rattle.kinds.specs.declared.Request.{Request}
 use Rattle.kinds.specs.declared.Row.{Row}
-use Rattle.kinds.specs.declared.RowState.the-variants.{Free, Fresh, Waiting, Active}
+use Rattle.kinds.specs.declared.RowState.the-variants.{Free, Waiting, Active}
 use Rattle.kinds.specs.declared.Reply.the-variants.{Nack, Activation, DiagnosticNack}
-use Rattle.kinds.specs.declared.Fault.{Fault}
 use Rattle.wire.specs.declared.payload.Ends.{Ends}
 use Rattle.wire.specs.Header.{closes, codeOf}
 use Rattle.wire.specs.Payload.{requestIn, addressIn, endsIn}
 use Rattle.model.specs.FarmSheet.{FarmSheet, TargetIs, stranger, unreachable, reachable}
 use Rattle.model.specs.Row.{clockOf, rowOf, rowAt, wanted, waitingRow, activeAs, isOpen, atLimit}
 use Rattle.model.specs.Stream.{Event, inputEnded, wrong, finished, skipped}
-use Rattle.model.specs.Farm.{Farm, Done, does, quietly, andThen, eachSeat, withRow, withLine, withMarks, says, closed, closedWhere}
+use Rattle.model.specs.Farm.{Farm, Done, does, quietly, withRow, withLine, says, closed, closedWhere}
 use Rattle.model.specs.Line.{accepted, socketRules, decide, asks, askedIf, asking, cleared, startedBy, started, advanced, answered, isSilent, isAsked, headVerdict, serve, settleLine, settle, isEmpty, joined, without, leftBy, left, marked}
-use Rattle.model.specs.Bytes.{decidedBy, requested, toTarget, diagnosed, messaged, faulted, eventDone}
+use Rattle.model.specs.Bytes.{decidedBy, requested, toTarget, diagnosed, eventDone}
 use Rattle.model.specs.Move.{peerGone, linkGone, clockRun, aged, ticked}
 use Rattle.model.proofs.Cases.{pick-case}
 use Rattle.model.proofs.Seats.{then-keeps, each-keeps, closings-keep}

@@ -1,8 +1,8 @@
 -- What stands in a room before a message is read never matters: two streams that differ only in what stands in the room beyond the bytes stored of the
 -- message in hand take the same bytes, end with the same event and store the same payload.
 -- Assumes nothing.
-use Prim.Native.Nat.{ℕ, zero, suc, _+_, _≤_, _<_}
-use mathlib.Core.Path.{_≡_, refl, sym, ap, subst, _∙_}
+use Prim.Native.Nat.{ℕ, zero, suc, _+_, _≤_}
+use mathlib.Core.Path.{_≡_, refl, sym, ap, _∙_}
 use mathlib.Core.Bool.{Bool, true, false}
 use mathlib.Core.List.{List, [], _∷_}
 use native.Mathlib.Numerals.{add-one}
@@ -21,11 +21,10 @@ use Rattle.wire.specs.Header.{headerSize, headerAt, verdictOf, closes}
 use Rattle.wire.specs.Payload.{requestIn, addressIn, endsIn}
 use Rattle.model.specs.FarmSheet.{FarmSheet}
 use Rattle.model.specs.Row.{noHead, boundary}
-use Rattle.model.specs.Stream.{Stream, streamOf, Event, inputEnded, wrong, finished, skipped, Fed, more, ends, rested, isStored, storedIn, afterWrong, judged, headerByte, readByte, skippedByte, feedAt, feed, Taken, taken, oneMore, takesBy, takes}
-use Rattle.model.specs.Farm.{Farm, Done, quietly}
+use Rattle.model.specs.Stream.{streamOf, Event, inputEnded, wrong, finished, skipped, Fed, more, ends, isStored, afterWrong, judged, feedAt, feed, Taken, taken, oneMore, takesBy, takes}
+use Rattle.model.specs.Farm.{Farm, quietly}
 use Rattle.model.specs.Line.{marked}
-use Rattle.model.specs.Bytes.{requested, diagnosed, messaged, eventDone, payloadBy}
-use Rattle.model.proofs.Cases.{split}
+use Rattle.model.specs.Bytes.{requested, diagnosed, eventDone, payloadBy}
 
 -- ---- rooms that agree
 

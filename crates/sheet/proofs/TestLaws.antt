@@ -1,10 +1,8 @@
 -- Refusal 1's test says the same as the record `GoodSheet`.
 -- Assumes nothing.
-use mathlib.Core.Path.{_≡_, refl}
 use mathlib.Core.Bool.{Bool}
 use mathlib.Core.List.{List}
-use Prim.Native.Nat.{ℕ, zero, suc, _≤_, _<_}
-use lib.Dec.{ltb}
+use Prim.Native.Nat.{ℕ, _<_}
 use lib.ListN.{length}
 use Rattle.octets.specs.Says.{Says}
 use Rattle.octets.proofs.SaysLaws.{says-of}
@@ -13,10 +11,10 @@ use Rattle.octets.proofs.FoldLaws.{every-says}
 use Rattle.sheet.specs.Sheet.{headSize, mostFarms, mostTesters, mostTargets, mostQuota, mostMode, mostRows, testerFlag, targetFlag}
 use Rattle.sheet.specs.Sheet.{farmCount, testerCount, targetCount, farmsOffset, testersOffset, targetsOffset, testersAt, targetsAt, endAt}
 use Rattle.sheet.specs.Sheet.{entityOf, quotaOf, modeOf, addressAt, farmOfAt, flagAt}
-use Rattle.sheet.specs.Rules.{GoodHead, GoodFarm, GoodFarms, GoodSection, GoodSheet}
+use Rattle.sheet.specs.Rules.{GoodHead, GoodFarm, GoodSection, GoodSheet}
 use Rattle.sheet.specs.Rows.{firstRow}
 use Rattle.sheet.specs.Test.{everyBelow, headGood, farmGood, addressBefore, knownGood, goodSheet}
-use Rattle.sheet.proofs.RulesLaws.{Passed, PassedTo, section-good, section-passed}
+use Rattle.sheet.proofs.RulesLaws.{Passed, section-good, section-passed}
 
 -- what holds of each number below n
 pub below-says : (p : ℕ → Bool) (P : ℕ → Type 0) → ((i : ℕ) → Says (p i) (P i)) → (n : ℕ) → Says (everyBelow p n) ((i : ℕ) → i < n → P i)
@@ -60,14 +58,11 @@ farms-say s n = below-says (farmGood s) (GoodFarm s) (farm-says s) n
 -- the test sees neighbours only: above the one before, the first above 0
 module _ (s : List ℕ) (at farms most : ℕ) where
   known-says : (i : ℕ) → Says (knownGood s at farms most i) (Passed s at farms most i)
-  known-says i = by i (says-lt (addressBefore s at i) (addressAt s at i))
-    where
-      by : (i : ℕ) → Says (ltb (addressBefore s at i) (addressAt s at i)) (addressBefore s at i < addressAt s at i) → Says (knownGood s at farms most i) (Passed s at farms most i)
-      by i above =
-          says-of
-          (λ h. record { above = h .0; farm = h .1 .0; flag = h .1 .1 })
-          (λ g. (g .above, (g .farm, g .flag)))
-          (says-both above (says-both (says-lt (farmOfAt s at i) farms) (says-le (flagAt s at i) most)))
+  known-says i =
+      says-of
+      (λ h. record { above = h .0; farm = h .1 .0; flag = h .1 .1 })
+      (λ g. (g .above, (g .farm, g .flag)))
+      (says-both (says-lt (addressBefore s at i) (addressAt s at i)) (says-both (says-lt (farmOfAt s at i) farms) (says-le (flagAt s at i) most)))
 
   section-says : (n : ℕ) → Says (everyBelow (knownGood s at farms most) n) (GoodSection s at n farms most)
   section-says n =
