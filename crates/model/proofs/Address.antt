@@ -68,9 +68,9 @@ pub address-once : (s : List ℕ) (farm : ℕ → Farm) (f g : ℕ) → Good (sl
     → activeAs a (rowAt (farm f .rows) i) ≡ true → activeAs a (rowAt (farm g .rows) j) ≡ true → (f ≡ g) × (i ≡ j)
 address-once s farm f g p q i j a x y =
     let same : f ≡ g =
-        one-farm f g (lookup a (testersOf s))
-        (tester-of s f a (tester-keeps (slotSheet s f) (rowAt (farm f .rows) i) (rowAt (farm f .rows) i .state) a (p .rowsKeep i) x))
-        (tester-of s g a (tester-keeps (slotSheet s g) (rowAt (farm g .rows) j) (rowAt (farm g .rows) j .state) a (q .rowsKeep j) y)) in
+    one-farm f g (lookup a (testersOf s))
+    (tester-of s f a (tester-keeps (slotSheet s f) (rowAt (farm f .rows) i) (rowAt (farm f .rows) i .state) a (p .rowsKeep i) x))
+    (tester-of s g a (tester-keeps (slotSheet s g) (rowAt (farm g .rows) j) (rowAt (farm g .rows) j .state) a (q .rowsKeep j) y)) in
     (same, once-place (activeAs a) refl (farm f .rows) (p .activeOnce a) i j x (subst (λ (k : ℕ). activeAs a (rowAt (farm k .rows) j) ≡ true) (sym same) y))
 
 -- ---- of a table

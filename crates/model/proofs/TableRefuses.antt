@@ -54,9 +54,11 @@ some-says p k (suc n) (x ∷ xs) = by (p x) refl (some-says p (suc k) n xs)
   where
     tail : Some-row p xs n → Some-row p (x ∷ xs) (suc n)
     tail h = record { seat = suc (h .seat); within = omega (arith, h .within); there = omega (arith, h .there); holds = h .holds }
+
     front : p x ≡ false → (i : ℕ) → i < suc n → i < suc (length xs) → p (rowAt (x ∷ xs) i) ≡ true → Some-row p xs n
     front e zero l m h = absurd (never (sym e ∙ h))
     front e (suc i) l m h = record { seat = i; within = omega arith; there = omega arith; holds = h }
+
     by : (b : Bool) → p x ≡ b → Says (isAt (firstAt p (suc k) (take n xs))) (Some-row p xs n)
         → Says (isAt (pick b (At k) (firstAt p (suc k) (take n xs)))) (Some-row p (x ∷ xs) (suc n))
     by true e u = says-yes (record { seat = 0; within = omega arith; there = omega arith; holds = e })

@@ -60,6 +60,7 @@ agree-aged a b f p = go (f .line)
   where
     older-rows : AgreeFor a b (aged f)
     older-rows i = rw (row-map older refl (f .rows) i) (p i)
+
     go : (line : List ℕ) → AgreeFor a b (aged (clockRun line f))
     go [] = older-rows
     go (head ∷ rest) = older-rows
@@ -165,6 +166,7 @@ module _ (own : FarmSheet) (f : Farm) (a b : List (List ℕ)) (k : RoomsAgree f 
             let h : length a ≤ seat = ltb-false seat (length a) l in
             rw (z, List·getD-eq-default (set a seat x) [] {n = seat} (omega (arith, length-set a seat x)), List·getD-eq-default (set b seat y) [] {n = seat} (omega (arith, length-set b seat y, k .count)))
             (record { size = refl; first = refl }))
+
         there : (i ≡ seat → ⊥) → Agree (storedIn-row (rowAt (f .rows) i)) (getD (set a seat x) i []) (getD (set b seat y) i [])
         there z = rw (getD-set-other a seat i x [] z, getD-set-other b seat i y [] z) (stays i)
 

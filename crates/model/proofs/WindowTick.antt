@@ -56,7 +56,7 @@ row-of s f h it e =
     let a : onRow (farmSheet s f) it ≡ true = rw (slot-sheet s f h) at e in (
       leb-true (firstRow s f) (it .row .0) (both-left (leb (firstRow s f) (it .row .0)) (ltb (it .row .0) (firstRow s f + rowsOwned s f)) a),
       ltb-true (it .row .0) (firstRow s f + rowsOwned s f)
-      (both-right (leb (firstRow s f) (it .row .0)) (ltb (it .row .0) (firstRow s f + rowsOwned s f)) a),
+          (both-right (leb (firstRow s f) (it .row .0)) (ltb (it .row .0) (firstRow s f + rowsOwned s f)) a),
     )
 
 -- an entry on one farm's rows is not on another's

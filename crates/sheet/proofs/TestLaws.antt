@@ -35,10 +35,13 @@ head-says s =
       targetsFollowTesters = h .1 .1 .1 .0;
       endsWithTargets = h .1 .1 .1 .1;
     })
-    (λ g.
-    ((g .farmsAtLeast, g .farmsAtMost),
-    ((g .testersAtMost, g .targetsAtMost),
-    ((g .farmsFollowHeader, g .testersFollowFarms), (g .targetsFollowTesters, g .endsWithTargets)))))
+    (λ g. (
+      (g .farmsAtLeast, g .farmsAtMost),
+      (
+        (g .testersAtMost, g .targetsAtMost),
+        ((g .farmsFollowHeader, g .testersFollowFarms), (g .targetsFollowTesters, g .endsWithTargets)),
+      ),
+    ))
     (says-both (says-both (says-le 1 (farmCount s)) (says-le (farmCount s) mostFarms))
     (says-both (says-both (says-le (testerCount s) mostTesters) (says-le (targetCount s) mostTargets))
     (says-both (says-both (says-eq (farmsOffset s) headSize) (says-eq (testersOffset s) (testersAt s)))
