@@ -29,5 +29,6 @@ pub mod WindowStream
 pub mod WindowRooms
 pub mod Neighbour
 pub mod TableRefuses
+pub mod Refusals
 pub mod Address
 pub mod Try
