@@ -15,7 +15,7 @@ use Rattle.model.specs.History.{Made, fresh, run, callsOf, hasOf}
 use Rattle.model.proofs.Rows.{row-free}
 use Rattle.model.proofs.TableTest.{fresh-test}
 use Rattle.model.proofs.WindowAlone.{alone, heldAfter}
-use Rattle.model.proofs.Window.{window, held-window}
+use Rattle.model.proofs.Window.{window, held-window, mineOf, calls-same}
 use Rattle.model.proofs.WindowStream.{agree-none}
 use Rattle.model.proofs.WindowRooms.{HeldAlike, alone-same}
 
@@ -57,6 +57,12 @@ module _ (s : List ℕ) (good : GoodSheet s) (g : ℕ) (inSheet : g < farmCount 
   pub neighbour-holds : (ms ns : List Made) → callsOf s g (fresh rooms) ms ≡ callsOf s g (fresh rooms) ns
       → slot (run s (fresh rooms) ms) g ≡ slot (run s (fresh rooms) ns) g
   neighbour-holds ms ns e = held-alone ms ∙ ap (heldAfter s g (newHeld (getD rooms g []))) e ∙ sym (held-alone ns)
+
+  -- so the farm has what it would have if no other farm ever called
+  pub silent-neighbours : (ms : List Made) → hasOf s g (fresh rooms) ms ≡ hasOf s g (fresh rooms) (mineOf s g (fresh rooms) ms)
+  silent-neighbours ms =
+      neighbour ms (mineOf s g (fresh rooms) ms)
+      (sym (calls-same s (good-says s .all good) g (fresh rooms) (fresh rooms) (fresh-test s rooms) (fresh-test s rooms) ms))
 
 -- ---- the same over two assembling buffers
 

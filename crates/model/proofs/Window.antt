@@ -15,7 +15,7 @@ use Rattle.sheet.specs.Sheet.{farmCount}
 use Rattle.sheet.specs.Test.{goodSheet}
 use Rattle.model.specs.FarmSheet.{slotSheet}
 use Rattle.model.specs.Move.{Own, Held, Move, refused, gave, move, tickMove}
-use Rattle.model.specs.Table.{Table, noHeld, slot, goodTable, Call, Lent, leastOutput, assemblingSize, Whose, nobodys, farms, everyones, whose, Outcome, refuses, movedTo, heldBy, tickTable, called, step, numberOf, rowOf, tookOf, itemsOf, longOf, tableOf}
+use Rattle.model.specs.Table.{Table, noHeld, slot, goodTable, Call, Lent, leastOutput, assemblingSize, Whose, nobodys, farms, everyones, whose, Did, Outcome, refuses, did, movedTo, heldBy, tickTable, called, step, numberOf, rowOf, tookOf, itemsOf, longOf, tableOf}
 use Rattle.model.specs.History.{Made, stepOf, run, repliesBy, Has, has, countsBy, counts, seenBy, seen, callsOf, hasOf}
 use Rattle.model.proofs.Cases.{split}
 use Rattle.model.proofs.TableTest.{step-test}
@@ -184,3 +184,44 @@ module _ (s : List ℕ) (q : goodSheet s ≡ true) (g : ℕ) (inSheet : g < farm
           heldAfter s g (slot t g) (pick (counts s g t m) (seen s m ∷ callsOf s g (tableOf t (stepOf s t m)) ms) (callsOf s g (tableOf t (stepOf s t m)) ms))
       by (counted c a b) ih = rw c (rw b at ih)
       by (passed c b) ih = rw c (rw b at ih)
+
+-- ---- a history without the neighbours' calls
+
+-- the calls of a history that count for farm g
+unfoldable pub mineOf : List ℕ → ℕ → Table → List Made → List Made
+mineOf s g t [] = []
+mineOf s g t (m ∷ ms) =
+    pick (counts s g t m) (m ∷ mineOf s g (tableOf t (stepOf s t m)) ms) (mineOf s g (tableOf t (stepOf s t m)) ms)
+
+-- what turns a tick away is lent with it
+tick-number : (l : Lent) (x y : Did) → numberOf (ifRoom l refuses (did x)) ≡ numberOf (ifRoom l refuses (did y))
+tick-number l x y = by (leb leastOutput (l .output)) (eqb (l .assembling) assemblingSize)
+  where
+    by : (a b : Bool) → numberOf (unless a (refuses 2) (unless b (refuses 3) (did x))) ≡ numberOf (unless a (refuses 2) (unless b (refuses 3) (did y)))
+    by true true = refl
+    by true false = refl
+    by false b = refl
+
+module _ (s : List ℕ) (q : goodSheet s ≡ true) (g : ℕ) where
+  counts-by : (t u : Table) (l : Lent) (w : Whose) → countsBy g w (numberOf (ifRoom l refuses (called s t w))) ≡ countsBy g w (numberOf (ifRoom l refuses (called s u w)))
+  counts-by t u l (nobodys n) = refl
+  counts-by t u l (farms f c) = refl
+  counts-by t u l everyones = ap (λ (n : ℕ). eqb n 0) (tick-number l _ _)
+
+  -- whether a call counts does not hang on the table
+  counts-same : (t u : Table) → goodTable s t ≡ true → goodTable s u ≡ true → (m : Made) → counts s g t m ≡ counts s g u m
+  unfolding counts
+  counts-same t u a b m =
+      rw (step-is s t q a (m .lent) (m .call), step-is s u q b (m .lent) (m .call)) (counts-by t u (m .lent) (whose s (m .call)))
+
+  pub calls-same : (t u : Table) → goodTable s t ≡ true → goodTable s u ≡ true → (ms : List Made) → callsOf s g u (mineOf s g t ms) ≡ callsOf s g t ms
+  unfolding callsOf mineOf
+  calls-same t u a b [] = refl
+  calls-same t u a b (m ∷ ms) =
+      let t′ : Table = tableOf t (stepOf s t m) in
+      let u′ : Table = tableOf u (stepOf s u m) in
+      let a′ : goodTable s t′ ≡ true = step-test s (m .lent) t (m .call) a in
+      let b′ : goodTable s u′ ≡ true = step-test s (m .lent) u (m .call) b in
+      split (counts s g t m)
+      (λ e. let d : counts s g u m ≡ true = sym (counts-same t u a b m) ∙ e in rw (e, d) (ap (λ l. seen s m ∷ l) (calls-same t′ u′ a′ b′ ms)))
+      (λ e. rw e (calls-same t′ u a′ b ms))
