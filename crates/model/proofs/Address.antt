@@ -70,8 +70,11 @@ address-once s farm f g p q i j a x y =
     let same : f ≡ g =
     one-farm f g (lookup a (testersOf s))
     (tester-of s f a (tester-keeps (slotSheet s f) (rowAt (farm f .rows) i) (rowAt (farm f .rows) i .state) a (p .rowsKeep i) x))
-    (tester-of s g a (tester-keeps (slotSheet s g) (rowAt (farm g .rows) j) (rowAt (farm g .rows) j .state) a (q .rowsKeep j) y)) in
-    (same, once-place (activeAs a) refl (farm f .rows) (p .activeOnce a) i j x (subst (λ (k : ℕ). activeAs a (rowAt (farm k .rows) j) ≡ true) (sym same) y))
+    (tester-of s g a (tester-keeps (slotSheet s g) (rowAt (farm g .rows) j) (rowAt (farm g .rows) j .state) a (q .rowsKeep j) y)) in (
+      same,
+      once-place (activeAs a) refl (farm f .rows) (p .activeOnce a) i j x
+          (subst (λ (k : ℕ). activeAs a (rowAt (farm k .rows) j) ≡ true) (sym same) y),
+    )
 
 -- ---- of a table
 
@@ -86,7 +89,8 @@ active-slot (h ∷ t) (suc f) i a e = omega (arith, active-slot t f i a e)
 pub table-once : (s : List ℕ) (t : Table) → goodTable s t ≡ true → (f g i j a : ℕ) → activeAs a (rowAt (slot t f .farm .rows) i) ≡ true
     → activeAs a (rowAt (slot t g .farm .rows) j) ≡ true → (f ≡ g) × (i ≡ j)
 table-once s t k f g i j a x y =
-    address-once s (λ f. slot t f .farm) f g (table-says s t .right k f (active-slot t f i a x)) (table-says s t .right k g (active-slot t g j a y)) i j a x y
+    address-once s (λ f. slot t f .farm) f g (table-says s t .right k f (active-slot t f i a x))
+    (table-says s t .right k g (active-slot t g j a y)) i j a x y
 
 -- ---- of a history
 

@@ -50,7 +50,8 @@ module _ (s : List ℕ) (good : GoodSheet s) (g : ℕ) (inSheet : g < farmCount 
   -- THE NEIGHBOUR CLAUSE. "two such histories under the same sheet that agree on one farm's calls and on the accepted ticks, in their order,
   -- give that farm the same answers, replies and meters, whatever the other farms do": from a fresh table, under a good sheet, for each farm of
   -- the sheet.
-  pub neighbour : (ms ns : List Made) → callsOf s g (fresh rooms) ms ≡ callsOf s g (fresh rooms) ns → hasOf s g (fresh rooms) ms ≡ hasOf s g (fresh rooms) ns
+  pub neighbour : (ms ns : List Made) → callsOf s g (fresh rooms) ms ≡ callsOf s g (fresh rooms) ns
+      → hasOf s g (fresh rooms) ms ≡ hasOf s g (fresh rooms) ns
   neighbour ms ns e = has-alone ms ∙ ap (alone s g (newHeld (getD rooms g []))) e ∙ sym (has-alone ns)
 
   -- and leave it with the same rows, line, clock, marks, meters and rooms

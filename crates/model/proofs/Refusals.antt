@@ -30,7 +30,8 @@ pub record OpenRow (s : List ℕ) (t : Table) (r : ℕ) : Type 0 where
 
 -- THE ROW IS OPEN exactly where it is some farm's and open there: a row that is nobody's is not
 pub open-row : (s : List ℕ) (t : Table) (r : ℕ) → (isOpen (rowIn s t (ownerOf s r)) ≡ true) ↔ OpenRow s t r
-open-row s t r = (λ e. by (ownerOf s r) refl e, λ h. ap (λ (o : Owner). isOpen (rowIn s t o)) (seat-owner s r (h .farm) (h .seat) (h .isSeat)) ∙ h .isOpenThere)
+open-row s t r =
+    (λ e. by (ownerOf s r) refl e, λ h. ap (λ (o : Owner). isOpen (rowIn s t o)) (seat-owner s r (h .farm) (h .seat) (h .isSeat)) ∙ h .isOpenThere)
   where
     by : (o : Owner) → ownerOf s r ≡ o → isOpen (rowIn s t o) ≡ true → OpenRow s t r
     by (Seat f seat) e h = record { farm = f .0; seat = seat; isSeat = owner-seat s r (f .0) seat e; isOpenThere = h }

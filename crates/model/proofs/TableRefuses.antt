@@ -157,7 +157,8 @@ module _ (s : List ℕ) where
     callTests (datagramTo f input) = ltb f (farmCount s) ∷ true ∷ true ∷ true ∷ true ∷ true ∷ []
     callTests (messageFrom f from to user) =
         ltb f (farmCount s) ∷ true ∷ true ∷ true ∷ both (leb 1 (length user)) (leb (length user) mostUser)
-        ∷ both (isTarget (slotSheet s f .target from)) (isAt (firstAt (activeAs to) 0 (take (length (slot t f .farm .rows)) (slot t f .farm .rows)))) ∷ []
+        ∷ both (isTarget (slotSheet s f .target from))
+        (isAt (firstAt (activeAs to) 0 (take (length (slot t f .farm .rows)) (slot t f .farm .rows)))) ∷ []
 
     is-kept : Says true (Unit {0})
     is-kept = says-yes tt
@@ -180,13 +181,15 @@ module _ (s : List ℕ) where
         also (says-lt f (farmCount s)) (also is-kept (also is-kept (also is-kept
         (also (says-both (says-le 1 (length user)) (says-le (length user) mostUser))
         (also
-        (says-both (says-true (isTarget (slotSheet s f .target from))) (some-says (activeAs to) 0 (length (slot t f .farm .rows)) (slot t f .farm .rows)))
+        (says-both (says-true (isTarget (slotSheet s f .target from)))
+        (some-says (activeAs to) 0 (length (slot t f .farm .rows)) (slot t f .farm .rows)))
         none)))))
 
     -- ---- a call's number is the first test that fails; the numbers here are those past rule 4
 
     -- a farm's call: 5 first
-    farm-number : (b : Bool) (f : ℕ) (c : Own) (x : ℕ) → numberOf (movedTo t f (move (slotSheet s f) (slot t f) c)) ≡ next (next (next (next (next x))))
+    farm-number : (b : Bool) (f : ℕ) (c : Own) (x : ℕ)
+        → numberOf (movedTo t f (move (slotSheet s f) (slot t f) c)) ≡ next (next (next (next (next x))))
         → numberOf (called s t (pick b (farms f c) (nobodys 5))) ≡ next (next (next (next (unless b 1 (next x)))))
     farm-number true f c x e = e
     farm-number false f c x e = refl
@@ -227,10 +230,12 @@ module _ (s : List ℕ) where
     closed-number f true h x e = e
     closed-number f false h x e = refl
 
-    closed-owner : (o : Owner) → numberOf (called s t (ofOwner o (λ seat. peerClosed seat))) ≡ next (next (next (next (next (unless (isOpen (rowIn t o)) 1 0)))))
+    closed-owner : (o : Owner)
+        → numberOf (called s t (ofOwner o (λ seat. peerClosed seat))) ≡ next (next (next (next (next (unless (isOpen (rowIn t o)) 1 0)))))
     unfolding move
     closed-owner (Seat f seat) =
-        closed-number (f .0) (isOpen (rowIn t (Seat f seat))) (slot t (f .0)) (moves (slot t (f .0)) (peerGone (slotSheet s (f .0)) seat (slot t (f .0) .farm))) refl
+        closed-number (f .0) (isOpen (rowIn t (Seat f seat))) (slot t (f .0))
+        (moves (slot t (f .0)) (peerGone (slotSheet s (f .0)) seat (slot t (f .0) .farm))) refl
     closed-owner Nobody = refl
 
     call-number : (c : Call) → numberOf (called s t (whose s c)) ≡ next (next (next (next (firstFailed (callTests c)))))
@@ -247,8 +252,13 @@ module _ (s : List ℕ) where
     call-number (messageFrom f from to user) =
         rw (take-length (slot t f .farm .rows))
         (farm-number (ltb f (farmCount s)) f (controller from to user)
-        (next (next (next (unless (both (leb 1 (length user)) (leb (length user) mostUser)) 1 (next (unless (both (isTarget (slotSheet s f .target from)) (isAt (firstAt (activeAs to) 0 (slot t f .farm .rows)))) 1 0))))))
-        (message-number f from to user (leb 1 (length user)) (leb (length user) mostUser) (isTarget (slotSheet s f .target from)) (firstAt (activeAs to) 0 (slot t f .farm .rows))))
+        (next
+        (next
+        (next
+        (unless (both (leb 1 (length user)) (leb (length user) mostUser)) 1
+        (next (unless (both (isTarget (slotSheet s f .target from)) (isAt (firstAt (activeAs to) 0 (slot t f .farm .rows)))) 1 0))))))
+        (message-number f from to user (leb 1 (length user)) (leb (length user) mostUser) (isTarget (slotSheet s f .target from))
+        (firstAt (activeAs to) 0 (slot t f .farm .rows))))
 
   -- 1 to 3, then what follows
   lent-number : (a b c : Bool) (o : Outcome) (x : ℕ) → numberOf o ≡ next (next (next x))
@@ -258,7 +268,8 @@ module _ (s : List ℕ) where
   lent-number true false c o x e = refl
   lent-number false b c o x e = refl
 
-  table-number : (b : Bool) (o : Outcome) (x : ℕ) → numberOf o ≡ next (next (next (next x))) → numberOf (unless b (refuses 4) o) ≡ next (next (next (unless b 1 (next x))))
+  table-number : (b : Bool) (o : Outcome) (x : ℕ) → numberOf o ≡ next (next (next (next x)))
+      → numberOf (unless b (refuses 4) o) ≡ next (next (next (unless b 1 (next x))))
   table-number true o x e = e
   table-number false o x e = refl
 
@@ -273,7 +284,8 @@ module _ (s : List ℕ) where
       step-number : (c : Call) → numberOf (step s l t c) ≡ firstFailed (lentTests (goodTable s t ∷ callTests t c))
       unfolding step
       step-number c =
-          lent-number (goodSheet s) (leb leastOutput (l .output)) (eqb (l .assembling) assemblingSize) (unless (goodTable s t) (refuses 4) (called s t (whose s c)))
+          lent-number (goodSheet s) (leb leastOutput (l .output)) (eqb (l .assembling) assemblingSize)
+          (unless (goodTable s t) (refuses 4) (called s t (whose s c)))
           (unless (goodTable s t) 1 (next (firstFailed (callTests t c))))
           (table-number (goodTable s t) (called s t (whose s c)) (firstFailed (callTests t c)) (call-number t c))
 

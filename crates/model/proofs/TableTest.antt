@@ -37,10 +37,12 @@ from-says s k (h ∷ t) =
     ))
     (says-both (farm-says (slotSheet s k) (h .farm)) (from-says s (suc k) t))
   where
-    all-of : (i : ℕ) → i < suc (length t) → Good (slotSheet s k) (h .farm) → ((j : ℕ) → j < length t → Good (slotSheet s (suc k + j)) (slot t j .farm))
+    all-of : (i : ℕ) → i < suc (length t) → Good (slotSheet s k) (h .farm)
+        → ((j : ℕ) → j < length t → Good (slotSheet s (suc k + j)) (slot t j .farm))
         → Good (slotSheet s (k + i)) (slot (h ∷ t) i .farm)
     all-of zero l x y = subst (λ (f : ℕ). Good (slotSheet s f) (h .farm)) (let z : k ≡ k + 0 = omega arith in z) x
-    all-of (suc i) l x y = subst (λ (f : ℕ). Good (slotSheet s f) (slot t i .farm)) (let z : suc k + i ≡ k + suc i = omega arith in z) (y i (omega arith))
+    all-of (suc i) l x y =
+        subst (λ (f : ℕ). Good (slotSheet s f) (slot t i .farm)) (let z : suc k + i ≡ k + suc i = omega arith in z) (y i (omega arith))
 
 -- THE TEST AND THE RULES: refusal 4 is given exactly where the table breaks a rule.
 pub table-says : (s : List ℕ) (t : Table) → Says (goodTable s t) (TableKeeps s t)
@@ -123,6 +125,7 @@ first-broken none zero = (λ e. tt, λ h. refl)
 first-broken none (suc n) = (λ e. absurd (omega arith), λ h. absurd h)
 first-broken (also {b = b} {K = K} {bs = bs} {Ks = Ks} s ts) n = by b s (first-broken ts)
   where
-    by : (c : Bool) → Says c K → ((m : ℕ) → (firstFailed bs ≡ m) ↔ FirstBroken Ks m) → (unless c 1 (next (firstFailed bs)) ≡ n) ↔ FirstBroken (K ∷ Ks) n
+    by : (c : Bool) → Says c K → ((m : ℕ) → (firstFailed bs ≡ m) ↔ FirstBroken Ks m)
+        → (unless c 1 (next (firstFailed bs)) ≡ n) ↔ FirstBroken (K ∷ Ks) n
     by true u ih = kept K Ks (firstFailed bs) ih (u .right refl) n
     by false u ih = broken K Ks (firstFailed bs) ih (λ k. never (u .all k)) n

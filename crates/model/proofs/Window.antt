@@ -34,7 +34,8 @@ room-case P l o two three rest = by (leb leastOutput (l .output)) (eqb (l .assem
     by false b = two
 
 -- likewise of a call and of the farm's own move
-pub rooms-case : (P : Outcome → Move → Type 0) (l : Lent) (o : Outcome) (mv : Move) → P (refuses 2) (refused 2) → P (refuses 3) (refused 3) → P o mv
+pub rooms-case : (P : Outcome → Move → Type 0) (l : Lent) (o : Outcome) (mv : Move) → P (refuses 2) (refused 2) → P (refuses 3) (refused 3)
+    → P o mv
     → P (ifRoom l refuses o) (ifRoom l refused mv)
 rooms-case P l o mv two three rest = by (leb leastOutput (l .output)) (eqb (l .assembling) assemblingSize)
   where
@@ -44,7 +45,8 @@ rooms-case P l o mv two three rest = by (leb leastOutput (l .output)) (eqb (l .a
     by false b = two
 
 -- under a good sheet, on a good table, only what is lent can turn a call away before the farm is looked at
-pub step-is : (s : List ℕ) (t : Table) → goodSheet s ≡ true → goodTable s t ≡ true → (l : Lent) (c : Call) → step s l t c ≡ ifRoom l refuses (called s t (whose s c))
+pub step-is : (s : List ℕ) (t : Table) → goodSheet s ≡ true → goodTable s t ≡ true → (l : Lent) (c : Call)
+    → step s l t c ≡ ifRoom l refuses (called s t (whose s c))
 unfolding step
 step-is s t q k l c = rw (q, k)
 
@@ -63,7 +65,8 @@ called-length s t (farms f c) = by (move (slotSheet s f) (slot t f) c)
     by (gave x) = length-set t f (x .held)
 called-length s t everyones = tick-length s 0 t
 
-pub step-length : (s : List ℕ) (t : Table) → goodSheet s ≡ true → goodTable s t ≡ true → (l : Lent) (c : Call) → length (tableOf t (step s l t c)) ≡ length t
+pub step-length : (s : List ℕ) (t : Table) → goodSheet s ≡ true → goodTable s t ≡ true → (l : Lent) (c : Call)
+    → length (tableOf t (step s l t c)) ≡ length t
 step-length s t q k l c =
     rw (step-is s t q k l c) (room-case (λ o. length (tableOf t o) ≡ length t) l (called s t (whose s c)) refl refl (called-length s t (whose s c)))
 
@@ -92,7 +95,8 @@ module _ (s : List ℕ) (q : goodSheet s ≡ true) (g : ℕ) (inSheet : g < farm
     own-moved c (gave x) =
         let e : slot (set t g (x .held)) g ≡ x .held = getD-set-same t g (x .held) noHeld inTable in mine (eq-eqb g g refl) (rw e) e
 
-    own-call : (l : Lent) (c : Own) → Part t (farms g c) (ifRoom l refuses (called s t (farms g c))) (aloneBy (slotSheet s g) (slot t g) l (farms g c))
+    own-call : (l : Lent) (c : Own)
+        → Part t (farms g c) (ifRoom l refuses (called s t (farms g c))) (aloneBy (slotSheet s g) (slot t g) l (farms g c))
     own-call l c =
         rooms-case (Part t (farms g c)) l (called s t (farms g c)) (move (slotSheet s g) (slot t g) c)
         (mine (eq-eqb g g refl) refl refl) (mine (eq-eqb g g refl) refl refl)
@@ -115,13 +119,18 @@ module _ (s : List ℕ) (q : goodSheet s ≡ true) (g : ℕ) (inSheet : g < farm
       part l (nobodys n) = others refl (room-case (λ o. slot (tableOf t o) g ≡ slot t g) l (refuses n) refl refl refl)
       part l (farms f c) =
           split (eqb f g)
-          (λ e. subst (λ (j : ℕ). Part t (farms j c) (ifRoom l refuses (called s t (farms j c))) (aloneBy (slotSheet s g) (slot t g) l (farms j c))) (sym (eqb-true f g e)) (own-call l c))
+          (λ e.
+          subst
+          (λ (j : ℕ). Part t (farms j c) (ifRoom l refuses (called s t (farms j c))) (aloneBy (slotSheet s g) (slot t g) l (farms j c)))
+          (sym (eqb-true f g e))
+          (own-call l c))
           (λ e.
           others e
           (room-case (λ o. slot (tableOf t o) g ≡ slot t g) l (called s t (farms f c)) refl refl
           (other-moved f (eqb-false f g e) (move (slotSheet s f) (slot t f) c))))
       part l everyones =
-          room-case (λ o. Part t everyones o (tickMove (slotSheet s g) (slot t g))) l (called s t everyones) (others refl refl) (others refl refl) tick-did
+          room-case (λ o. Part t everyones o (tickMove (slotSheet s g) (slot t g))) l (called s t everyones)
+          (others refl refl) (others refl refl) tick-did
 
   seen-move : (h : Held) (m : Made) (w : Whose) → whose s (m .call) ≡ w → aloneMove s g h (seenBy w m) ≡ aloneBy (slotSheet s g) h (m .lent) w
   seen-move h m (nobodys n) e = ap (aloneBy (slotSheet s g) h (m .lent)) e
@@ -135,7 +144,8 @@ module _ (s : List ℕ) (q : goodSheet s ≡ true) (g : ℕ) (inSheet : g < farm
     passed : counts s g t m ≡ false → slot (tableOf t (stepOf s t m)) g ≡ slot t g → Call-of t m
 
   -- the same, read off the call's outcome
-  read-off : (t : Table) (m : Made) → Part t (whose s (m .call)) (stepOf s t m) (aloneBy (slotSheet s g) (slot t g) (m .lent) (whose s (m .call))) → Call-of t m
+  read-off : (t : Table) (m : Made)
+      → Part t (whose s (m .call)) (stepOf s t m) (aloneBy (slotSheet s g) (slot t g) (m .lent) (whose s (m .call))) → Call-of t m
   unfolding counts has
   read-off t m (mine c a b) =
       let e = seen-move (slot t g) m (whose s (m .call)) refl in
@@ -167,21 +177,25 @@ module _ (s : List ℕ) (q : goodSheet s ≡ true) (g : ℕ) (inSheet : g < farm
       by : Call-of t m
           → hasOf s g (tableOf t (stepOf s t m)) ms ≡ alone s g (slot (tableOf t (stepOf s t m)) g) (callsOf s g (tableOf t (stepOf s t m)) ms)
           → pick (counts s g t m) (has s g t m ∷ hasOf s g (tableOf t (stepOf s t m)) ms) (hasOf s g (tableOf t (stepOf s t m)) ms) ≡
-          alone s g (slot t g) (pick (counts s g t m) (seen s m ∷ callsOf s g (tableOf t (stepOf s t m)) ms) (callsOf s g (tableOf t (stepOf s t m)) ms))
+          alone s g (slot t g)
+          (pick (counts s g t m) (seen s m ∷ callsOf s g (tableOf t (stepOf s t m)) ms) (callsOf s g (tableOf t (stepOf s t m)) ms))
       by (counted c a b) ih = rw c (ap₂ {A = Has} {B = List Has} {C = List Has} (λ x xs. x ∷ xs) a (rw b at ih))
       by (passed c b) ih = rw c (rw b at ih)
 
   -- what farm g holds after a history is what it would hold alone
-  pub held-window : (t : Table) → g < length t → goodTable s t ≡ true → (ms : List Made) → slot (run s t ms) g ≡ heldAfter s g (slot t g) (callsOf s g t ms)
+  pub held-window : (t : Table) → g < length t → goodTable s t ≡ true → (ms : List Made)
+      → slot (run s t ms) g ≡ heldAfter s g (slot t g) (callsOf s g t ms)
   unfolding run callsOf heldAfter
   held-window t h k [] = refl
   held-window t h k (m ∷ ms) =
       by (call-of t h k m) (held-window (tableOf t (stepOf s t m)) (slots-on t h k m) (keeps-on t k m) ms)
     where
       by : Call-of t m
-          → slot (run s (tableOf t (stepOf s t m)) ms) g ≡ heldAfter s g (slot (tableOf t (stepOf s t m)) g) (callsOf s g (tableOf t (stepOf s t m)) ms)
           → slot (run s (tableOf t (stepOf s t m)) ms) g ≡
-          heldAfter s g (slot t g) (pick (counts s g t m) (seen s m ∷ callsOf s g (tableOf t (stepOf s t m)) ms) (callsOf s g (tableOf t (stepOf s t m)) ms))
+          heldAfter s g (slot (tableOf t (stepOf s t m)) g) (callsOf s g (tableOf t (stepOf s t m)) ms)
+          → slot (run s (tableOf t (stepOf s t m)) ms) g ≡
+          heldAfter s g (slot t g)
+          (pick (counts s g t m) (seen s m ∷ callsOf s g (tableOf t (stepOf s t m)) ms) (callsOf s g (tableOf t (stepOf s t m)) ms))
       by (counted c a b) ih = rw c (rw b at ih)
       by (passed c b) ih = rw c (rw b at ih)
 
@@ -197,13 +211,15 @@ mineOf s g t (m ∷ ms) =
 tick-number : (l : Lent) (x y : Did) → numberOf (ifRoom l refuses (did x)) ≡ numberOf (ifRoom l refuses (did y))
 tick-number l x y = by (leb leastOutput (l .output)) (eqb (l .assembling) assemblingSize)
   where
-    by : (a b : Bool) → numberOf (unless a (refuses 2) (unless b (refuses 3) (did x))) ≡ numberOf (unless a (refuses 2) (unless b (refuses 3) (did y)))
+    by : (a b : Bool)
+        → numberOf (unless a (refuses 2) (unless b (refuses 3) (did x))) ≡ numberOf (unless a (refuses 2) (unless b (refuses 3) (did y)))
     by true true = refl
     by true false = refl
     by false b = refl
 
 module _ (s : List ℕ) (q : goodSheet s ≡ true) (g : ℕ) where
-  counts-by : (t u : Table) (l : Lent) (w : Whose) → countsBy g w (numberOf (ifRoom l refuses (called s t w))) ≡ countsBy g w (numberOf (ifRoom l refuses (called s u w)))
+  counts-by : (t u : Table) (l : Lent) (w : Whose)
+      → countsBy g w (numberOf (ifRoom l refuses (called s t w))) ≡ countsBy g w (numberOf (ifRoom l refuses (called s u w)))
   counts-by t u l (nobodys n) = refl
   counts-by t u l (farms f c) = refl
   counts-by t u l everyones = ap (λ (n : ℕ). eqb n 0) (tick-number l _ _)
@@ -214,7 +230,8 @@ module _ (s : List ℕ) (q : goodSheet s ≡ true) (g : ℕ) where
   counts-same t u a b m =
       rw (step-is s t q a (m .lent) (m .call), step-is s u q b (m .lent) (m .call)) (counts-by t u (m .lent) (whose s (m .call)))
 
-  pub calls-same : (t u : Table) → goodTable s t ≡ true → goodTable s u ≡ true → (ms : List Made) → callsOf s g u (mineOf s g t ms) ≡ callsOf s g t ms
+  pub calls-same : (t u : Table) → goodTable s t ≡ true → goodTable s u ≡ true → (ms : List Made)
+      → callsOf s g u (mineOf s g t ms) ≡ callsOf s g t ms
   unfolding callsOf mineOf
   calls-same t u a b [] = refl
   calls-same t u a b (m ∷ ms) =

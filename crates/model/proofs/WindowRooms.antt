@@ -133,7 +133,8 @@ module _ (own : FarmSheet) (f : Farm) (a b : List (List ℕ)) (k : RoomsAgree f 
         rooms = record { count = k .count; each = agree-put a b f seat (Fresh (clockOf 0)) stays };
       }
 
-  tester-alike : (from to : ℕ) (user : List ℕ) (x : Found) → Alike (toTester own (over f a) from to user x) (toTester own (over f b) from to user x)
+  tester-alike : (from to : ℕ) (user : List ℕ) (x : Found)
+      → Alike (toTester own (over f a) from to user x) (toTester own (over f b) from to user x)
   tester-alike from to user Nothing = refl
   tester-alike from to user (At seat) = record { row = refl; took = refl; items = refl; long = refl; farm = refl; rooms = k }
 
@@ -164,7 +165,9 @@ module _ (own : FarmSheet) (f : Farm) (a b : List (List ℕ)) (k : RoomsAgree f 
             rw (z, getD-set-same a seat x [] h, getD-set-same b seat y [] (omega (arith, k .count))) g)
             (λ l.
             let h : length a ≤ seat = ltb-false seat (length a) l in
-            rw (z, List·getD-eq-default (set a seat x) [] {n = seat} (omega (arith, length-set a seat x)), List·getD-eq-default (set b seat y) [] {n = seat} (omega (arith, length-set b seat y, k .count)))
+            let u = List·getD-eq-default (set a seat x) [] {n = seat} (omega (arith, length-set a seat x)) in
+            let v = List·getD-eq-default (set b seat y) [] {n = seat} (omega (arith, length-set b seat y, k .count)) in
+            rw (z, u, v)
             (record { size = refl; first = refl }))
 
         there : (i ≡ seat → ⊥) → Agree (storedIn-row (rowAt (f .rows) i)) (getD (set a seat x) i []) (getD (set b seat y) i [])
@@ -188,7 +191,8 @@ module _ (own : FarmSheet) (f : Farm) (a b : List (List ℕ)) (k : RoomsAgree f 
         }
 
   bytes-alike : (seat : ℕ) (input : List ℕ) → isOpen (rowAt (f .rows) seat) ≡ true
-      → Alike (tookBytes own (over f a) seat (takenBy seat (getD a seat []) input f)) (tookBytes own (over f b) seat (takenBy seat (getD b seat []) input f))
+      → Alike (tookBytes own (over f a) seat (takenBy seat (getD a seat []) input f))
+      (tookBytes own (over f b) seat (takenBy seat (getD b seat []) input f))
   bytes-alike seat input o =
       takes-alike input (λ t u. Alike (tookBytes own (over f a) seat t) (tookBytes own (over f b) seat u)) (took-alike seat (open-in (f .rows) seat o))
       (rowAt (f .rows) seat .place) (rowAt (f .rows) seat .head) (getD a seat []) (getD b seat []) (stays seat)

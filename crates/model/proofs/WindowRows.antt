@@ -149,7 +149,8 @@ module _ (own : FarmSheet) (P : Farm → Type 0) (same : (f g : Farm) → f .row
 
   pub link-keeps : (f : Farm) → P f → P (linkGone own f .farm)
   unfolding linkGone
-  link-keeps f p = then-keeps P _ (λ g. quietly (cleared (withLine g []))) (closings (λ seat r. isOpen r) f p) (λ g q. same g (cleared (withLine g [])) refl q)
+  link-keeps f p =
+      then-keeps P _ (λ g. quietly (cleared (withLine g []))) (closings (λ seat r. isOpen r) f p) (λ g q. same g (cleared (withLine g [])) refl q)
 
   -- a tick makes the rows older first
   pub tick-keeps : (f : Farm) → P (aged (clockRun (f .line) f)) → P (ticked own f .farm)

@@ -85,7 +85,8 @@ module _ (Q : Fed → Fed → Type 0)
     (on : (p : Place) (head m k : List ℕ) → Agree (storedAt p head) m k → Q (more (streamOf p head m)) (more (streamOf p head k)))
     (stop : (e : Event) (p : Place) (head m k : List ℕ) → Agree (storedAt p head) m k → payloadBy e m ≡ payloadBy e k
     → Q (ends e (streamOf p head m)) (ends e (streamOf p head k))) where
-  wrong-alike : (fault : Fault) (head m k : List ℕ) → length m ≡ length k → Q (ends (wrong fault) (afterWrong fault head m)) (ends (wrong fault) (afterWrong fault head k))
+  wrong-alike : (fault : Fault) (head m k : List ℕ) → length m ≡ length k
+      → Q (ends (wrong fault) (afterWrong fault head m)) (ends (wrong fault) (afterWrong fault head k))
   wrong-alike fault head m k e =
       pick-both (λ x y. Q (ends (wrong fault) x) (ends (wrong fault) y)) (closes fault)
       (λ _. stop (wrong fault) boundary noHead m k (agree-none e) refl)
@@ -133,9 +134,12 @@ takes-alike (byte ∷ bytes) P holds p head m k a =
 -- ---- what ended a call brings about the same
 
 -- only a message that is stored is looked at
-messaged-same : (own : FarmSheet) (seat : ℕ) (f : Farm) (a b c : Bool) (x y : List ℕ) → pick (either a (either b c)) x [] ≡ pick (either a (either b c)) y []
-    → pick a (requested own seat (requestIn x) f) (pick b (quietly (marked own seat (addressIn x) f)) (pick c (diagnosed own seat (endsIn x) f) (quietly f))) ≡
-    pick a (requested own seat (requestIn y) f) (pick b (quietly (marked own seat (addressIn y) f)) (pick c (diagnosed own seat (endsIn y) f) (quietly f)))
+messaged-same : (own : FarmSheet) (seat : ℕ) (f : Farm) (a b c : Bool) (x y : List ℕ)
+    → pick (either a (either b c)) x [] ≡ pick (either a (either b c)) y []
+    → pick a (requested own seat (requestIn x) f)
+    (pick b (quietly (marked own seat (addressIn x) f)) (pick c (diagnosed own seat (endsIn x) f) (quietly f))) ≡
+    pick a (requested own seat (requestIn y) f)
+    (pick b (quietly (marked own seat (addressIn y) f)) (pick c (diagnosed own seat (endsIn y) f) (quietly f)))
 messaged-same own seat f true b c x y e = ap (λ (z : List ℕ). requested own seat (requestIn z) f) e
 messaged-same own seat f false true c x y e = ap (λ (z : List ℕ). quietly (marked own seat (addressIn z) f)) e
 messaged-same own seat f false false true x y e = ap (λ (z : List ℕ). diagnosed own seat (endsIn z) f) e

@@ -68,7 +68,8 @@ other-row s f g hf hg ne it e =
     let a = row-of s f hf it e in
     let b = row-of s g hg it d in
     absurd
-    (rows-apart s f g (it .row .0 - firstRow s f) (it .row .0 - firstRow s g) hf hg (omega (arith, a .0, a .1)) (omega (arith, b .0, b .1)) ne (omega (arith, a .0, b .0))))
+    (rows-apart s f g (it .row .0 - firstRow s f) (it .row .0 - firstRow s g) hf hg
+    (omega (arith, a .0, a .1)) (omega (arith, b .0, b .1)) ne (omega (arith, a .0, b .0))))
     (λ d. d)
 
 -- a farm's part of a tick is on its own rows
@@ -85,7 +86,8 @@ module _ (s : List ℕ) (g : ℕ) (inSheet : g < farmCount s) where
       (λ l.
       let k : f < farmCount s = ltb-true f (farmCount s) l in
       rw l
-      (keep-none (onRow (slotSheet s g)) (onRow (slotSheet s f)) (other-row s f g k inSheet ne) (itemsBy (tickMove (slotSheet s f) h)) (tick-own (slotSheet s f) h e)))
+      (keep-none (onRow (slotSheet s g)) (onRow (slotSheet s f)) (other-row s f g k inSheet ne)
+      (itemsBy (tickMove (slotSheet s f) h)) (tick-own (slotSheet s f) h e)))
       (λ l. rw l)
 
   own-tick : (h : Held) → slotTick s g h ≡ tickMove (slotSheet s g) h
@@ -121,7 +123,8 @@ module _ (s : List ℕ) (g : ℕ) (inSheet : g < farmCount s) where
       (rw (other-part k h (λ y. omega arith) (both-left (goodFarm (slotSheet s k) (h .farm)) (goodFrom s (suc k) t) e))
       (part-of (suc k) i t (omega arith) (omega arith) (both-right (goodFarm (slotSheet s k) (h .farm)) (goodFrom s (suc k) t) e)))
 
-  pub tick-slot : (k i : ℕ) (t : Table) → k + i ≡ g → i < length t → slot (tickTable s k t) i ≡ heldBy (slot t i) (tickMove (slotSheet s g) (slot t i))
+  pub tick-slot : (k i : ℕ) (t : Table) → k + i ≡ g → i < length t
+      → slot (tickTable s k t) i ≡ heldBy (slot t i) (tickMove (slotSheet s g) (slot t i))
   tick-slot k i [] z l = absurd (omega arith)
   tick-slot k zero (h ∷ t) z l = ap (λ (j : ℕ). heldBy h (slotTick s j h)) (let q : k ≡ g = omega arith in q) ∙ ap (heldBy h) (own-tick h)
   tick-slot k (suc i) (h ∷ t) z l = tick-slot (suc k) i t (omega arith) (omega arith)
