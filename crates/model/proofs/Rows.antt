@@ -7,7 +7,7 @@ use mathlib.Core.List.{List, [], _∷_, _++_, map}
 use native.Mathlib.Nat.{not-suc-le-zero}
 use native.Mathlib.Omega.{arith}
 use lib.Dec.{eqb}
-use lib.ListN.{getD, set, length}
+use lib.ListN.{getD, set, length, replicate}
 use borrow.Author.Tests.{eqb-true, eq-eqb}
 use Rattle.octets.specs.Choice.{pick, one}
 use Rattle.octets.specs.Search.{countIf}
@@ -104,3 +104,10 @@ times-kept i x n (y ∷ l) =
     split (eqb x y)
     (λ e. let q : eqb i y ≡ false = rw (eqb-true x y e) at n in rw e (let t : one (eqb i y) ≡ 0 = ap one q in omega (arith, times-kept i x n l)))
     (λ e. rw e (ap (one (eqb i y) +_) (times-kept i x n l)))
+
+-- ---- rows of a new farm
+
+pub row-free : (n i : ℕ) → rowAt (replicate n freeRow) i ≡ freeRow
+row-free zero i = refl
+row-free (suc n) zero = refl
+row-free (suc n) (suc i) = row-free n i

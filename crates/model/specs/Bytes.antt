@@ -17,7 +17,7 @@ use Rattle.wire.specs.Header.{codeOf, closes}
 use Rattle.wire.specs.Payload.{requestIn, addressIn, endsIn}
 use Rattle.model.specs.FarmSheet.{FarmSheet, TargetIs, stranger, unreachable, reachable}
 use Rattle.model.specs.Row.{rowAt, activeAs, heardState}
-use Rattle.model.specs.Stream.{Stream, streamOf, Event, inputEnded, wrong, finished, skipped, Taken, takes, endedBy}
+use Rattle.model.specs.Stream.{Stream, streamOf, isStored, Event, inputEnded, wrong, finished, skipped, Taken, takes, endedBy}
 use Rattle.model.specs.Farm.{Farm, withRow, withMeters, tookMore, finishedMore, Done, does, quietly, andThen, says, closed}
 use Rattle.model.specs.Line.{decide, answered, joined, marked, settle}
 
@@ -77,11 +77,12 @@ heard seat t f =
 abbrev pub takenBy : ℕ → List ℕ → List ℕ → Farm → Taken
 takenBy seat room input f = takes (streamOf (rowAt (f .rows) seat .place) (rowAt (f .rows) seat .head) room) input
 
--- the payload that is handed on, if the call hands one on: the whole of the message that it finished
+-- the payload that is handed on, if the call hands one on: the whole of the message that it finished. One that is read and dropped is not
+-- stored, so that what stands in the room is not its payload
 abbrev pub payloadBy : Event → List ℕ → List ℕ
 payloadBy inputEnded room = []
 payloadBy (wrong fault) room = []
-payloadBy (finished kind size) room = take size room
+payloadBy (finished kind size) room = pick (isStored kind) (take size room) []
 payloadBy (skipped size) room = []
 
 unfoldable pub bytesDone : FarmSheet → ℕ → Taken → Farm → Done

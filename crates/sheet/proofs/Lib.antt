@@ -4,3 +4,4 @@ pub mod FarmsLaws
 pub mod FindLaws
 pub mod RowsLaws
 pub mod Example
+pub mod TestLaws
