@@ -33,7 +33,7 @@ use Rattle.model.proofs.Settling.{advanced-farm, limit-positive, starte
 use Rattle.model.proofs.CalmRows.{Alike, SameAsked, same-asked}
 use Rattle.model.proofs.CalmCheck.{ready-of, same-check, verdict-same}
 use Rattle.model.proofs.CalmChange.{apart}
-use Rattle.model.proofs.Due.{waits, then-after, Near, Due, Ends, advanced-near, settle-due}
+use Rattle.model.proofs.Due.{Due, advanced-near}
 
 -- ---- a row that is not active, before and after a store: no rule on the line sees the difference
 
@@ -162,13 +162,6 @@ module _ (own : FarmSheet) (f : Farm) (seat : ℕ) (t : Taken) (size : ℕ) (req
   joined-line =
       pick-case (λ (d : Done). d .farm .line ≡ f .line ++ seat ∷ []) (isEmpty (f .line)) _ _
       (λ e. ap (λ (x : Farm). x .line) (advanced-farm own (f .line ++ seat ∷ []) at-end)) (λ e. refl)
-
-  -- after the whole call it is answered or due
-  pub join-due : (n : ℕ) → f .clock .ticks < checkLimit → checkLimit * suc (length (f .line)) ≤ n
-      → Ends own seat request n (bytesDone own seat t f)
-  unfolding bytesDone
-  join-due n r w =
-      rw event-joins (then-after {P = Near seat request n} joins (settle own) (waits (joined-due n r w .near)) (settle-due own seat request n))
 
   -- ---- from a farm that keeps the rules, it is not answered by that call: it stands at the end of the line as it was
 
