@@ -2,4 +2,5 @@ pub mod Cases
 pub mod Rows
 pub mod Seats
 pub mod Split
-pub mod Try
+pub mod HandOnNone
+pub mod HandOnStream
