@@ -4,3 +4,4 @@ pub mod Seats
 pub mod Split
 pub mod HandOnNone
 pub mod HandOnStream
+pub mod HandOn
