@@ -5,3 +5,4 @@ pub mod Split
 pub mod HandOnNone
 pub mod HandOnStream
 pub mod HandOn
+pub mod HandOnElse
