@@ -6,7 +6,6 @@ use kinds::Reply;
 use wire::header::Header;
 ghost use mathlib.Core.Path.{_≡_};
 ghost use lib.ListN.{length};
-ghost use Prim.Native.Nat.{_≤_};
 ghost use Rattle.datagram.specs.Datagram.{rightFor, lengthRight, headVerdict, datagramVerdict, ifNamed, answerBy, answerTo};
 ghost use Rattle.octets.specs.Search.{sameList};
 
@@ -32,7 +31,7 @@ fn is_right_for(h: Header) -> bool
 fn is_length_right(h: Header, following: usize) -> bool
     ensures { λ r. ⌜ r ≡ lengthRight h following ⌝ }
 {
-    if !wire::types::length_fits(1, h.kind, h.length) {
+    if !wire::types::length_fits(wire::types::UDP, h.kind, h.length) {
         return false;
     }
     let n = h.length as usize;
@@ -45,7 +44,7 @@ fn judge_head(h: Header, following: usize) -> DatagramVerdict
     if !is_right_for(h) {
         return DatagramVerdict::Wrong(Fault::Pattern);
     }
-    if !wire::types::known(1, h.kind) {
+    if !wire::types::known(wire::types::UDP, h.kind) {
         return DatagramVerdict::Wrong(Fault::UnknownType);
     }
     if is_length_right(h, following) {

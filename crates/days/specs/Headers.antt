@@ -1,12 +1,10 @@
 -- The worked days that are about one header.
 -- Assumes nothing: these are definitions.
-use mathlib.Core.Bool.{Bool, true, false}
 use mathlib.Core.List.{List, [], _∷_}
 use Prim.Native.Nat.{ℕ}
 use Rattle.octets.specs.Choice.{pick}
 use Rattle.kinds.specs.declared.Verdict.{Verdict}
 use Rattle.kinds.specs.declared.Verdict.the-variants.{Passes, Wrong}
-use Rattle.wire.specs.declared.header.Header.{Header}
 use Rattle.wire.specs.Header.{headerAt, verdictOf, codeOf, closes}
 
 -- what the paper says of a verdict: that it passes, or its number and whether it closes the row

@@ -20,7 +20,7 @@ days =
     (0x03 ∷ 0xFC ∷ 0x80 ∷ 0x02 ∷ 0x00 ∷ 0x00 ∷ 0x00 ∷ 0x05 ∷ 0x10 ∷ 0x10 ∷ 0x0E ∷ 0x00 ∷ 0x00 ∷ [])
     -- "`03 FD` pattern: NACK 00, close."
     ∷ plain (judged (0x03 ∷ 0xFD ∷ 0x80 ∷ 0x01 ∷ 0 ∷ 0 ∷ 0 ∷ 5 ∷ [])) (nackAndClose 0)
-    -- "Length 2,048 passes" (on 8001)
+    -- "Length 2,048 passes" (on 8001: DECISIONS, D9)
     ∷ plain (judged (0x03 ∷ 0xFC ∷ 0x80 ∷ 0x01 ∷ 0 ∷ 0 ∷ 8 ∷ 0 ∷ [])) passes
     -- "2,049 is NACK 02" (and skips)
     ∷ plain (judged (0x03 ∷ 0xFC ∷ 0x80 ∷ 0x01 ∷ 0 ∷ 0 ∷ 8 ∷ 1 ∷ [])) (nackAndSkip 2)

@@ -1,6 +1,7 @@
 // The types by value that the core speaks of. Nothing here knows how any of them stands in bytes.
 
-// A row over the whole sheet, 0 to 15, and a farm, 0 to 3: two kinds, so that a row can't index the farms.
+// A row over the whole sheet, 0 to 15 (255 where an entry belongs to none), and a farm, 0 to 3: two kinds, so that a row can't
+// index the farms.
 pub struct RowNo(pub u8);
 
 pub struct FarmNo(pub u8);

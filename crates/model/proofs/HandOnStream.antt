@@ -11,7 +11,7 @@ use lib.Dec.{eqb, leb, ltb}
 use lib.ListN.{length, getD, take, drop, set, length-append, length-set, List·getD-append}
 use lib.Seq.{take-all, take-suc-set, length-take-le, take-at, drop-at}
 use borrow.Author.Tests.{ltb-true, ltb-false, leb-true, leb-false, lt-ltb, le-ltb}
-use Rattle.octets.specs.Choice.{pick, both, either, unless}
+use Rattle.octets.specs.Choice.{pick, both}
 use Rattle.octets.specs.Search.{some}
 use Rattle.octets.specs.Parts.{part}
 use Rattle.kinds.specs.declared.Fault.{Fault}
@@ -21,11 +21,12 @@ use Rattle.kinds.specs.declared.Verdict.the-variants.{Passes, Wrong}
 use Rattle.kinds.specs.declared.Place.{Place}
 use Rattle.kinds.specs.declared.Place.the-variants.{Header, Reading, Skipping}
 use Rattle.wire.specs.declared.header.Header.{Header as Head}
-use Rattle.wire.specs.Types.{types, tcp, knownOn, lengthFits}
-use Rattle.wire.specs.Header.{headerSize, headerAt, mostPayload, rightPattern, verdictOf}
+use Rattle.wire.proofs.HeaderLaws.{passes-all}
+use Rattle.wire.specs.Types.{types, tcp, lengthFits}
+use Rattle.wire.specs.Header.{headerSize, headerAt, mostPayload, verdictOf}
 use Rattle.model.specs.Stream.{Stream, streamOf, Event, inputEnded, wrong, finished, skipped, storedIn, isStored, judged, feed, Taken, takesBy, takes}
 use Rattle.model.specs.Rule.{PossibleAt}
-use Rattle.model.proofs.Cases.{pick-case, unless-case, split}
+use Rattle.model.proofs.Cases.{split}
 
 -- ---- the words of the claim
 
@@ -51,7 +52,7 @@ pub record Ends (m : List ℕ) (e : Event) (s : Stream) : Type 0 where
   pub stores : Whole m → take (headerAt m 0 .length) (s .room) ≡ payloadOf m
   pub only : (size : ℕ) → e ≡ finished 0x8001 size → Whole m
 
--- ---- a header that passes announces at least one byte, and no more than a row has room for
+-- ---- a header that passes announces at least one byte
 
 both-none : (b : Bool) → both b false ≡ false
 both-none true = refl
@@ -61,24 +62,11 @@ fits-some : (kind : ℕ) → lengthFits tcp kind 0 ≡ false
 unfolding lengthFits some types
 fits-some kind = simp both-none
 
-pub passes-fits : (h : Head) → verdictOf h ≡ Passes → (h .length ≤ mostPayload) × (lengthFits tcp (h .kind) (h .length) ≡ true)
-unfolding verdictOf
-passes-fits h =
-    unless-case P (rightPattern (h .version) (h .inverse)) _ _ (λ t e. absurd (other e))
-    (λ t. unless-case P (knownOn tcp (h .kind)) _ _ (λ t e. absurd (other e))
-    (λ t. unless-case P (leb (h .length) mostPayload) _ _ (λ t e. absurd (other e))
-    (λ short. unless-case P (lengthFits tcp (h .kind) (h .length)) _ _ (λ t e. absurd (other e)) (λ fits e. (leb-true _ _ short, fits)))))
-  where
-    P : Verdict → Type 0
-    P v = v ≡ Passes → (h .length ≤ mostPayload) × (lengthFits tcp (h .kind) (h .length) ≡ true)
-    other : {f : Fault} → Wrong f ≡ Passes → ⊥
-    other e = let z : _≡_ {A = ℕ} 0 1 = cc in omega arith
-
 pub passes-some : (h : Head) → verdictOf h ≡ Passes → 1 ≤ h .length
 passes-some h e = go (h .length) refl
   where
     go : (n : ℕ) → h .length ≡ n → 1 ≤ h .length
-    go zero z = absurd (false≢true (sym (fits-some (h .kind)) ∙ rw z at (passes-fits h e .1)))
+    go zero z = absurd (false≢true (sym (fits-some (h .kind)) ∙ rw z at (passes-all h e .fits)))
     go (suc n) z = omega arith
 
 -- ---- one byte further
@@ -198,7 +186,7 @@ module _ (m hd room input : List ℕ) (n : ℕ) (front : headerAt m 0 ≡ header
       let size : headerAt m 0 .length ≡ headerAt hd 0 .length = ap (λ (x : Head). x .length) front in
       let kind : headerAt hd 0 .kind ≡ 0x8001 = ap (λ (x : Head). x .kind) (sym front) ∙ w .diagnostic in
       let kept : isStored (headerAt hd 0 .kind) ≡ true = rw kind refl in
-      rw (size, behind) (read-stores hd n room input kept h (omega (arith, passes-fits (headerAt hd 0) p .0)) (omega (arith, w .whole)))
+      rw (size, behind) (read-stores hd n room input kept h (omega (arith, passes-all (headerAt hd 0) p .short)) (omega (arith, w .whole)))
 
   read-only : (size : ℕ) → takes (streamOf (Reading n) hd room) input .event ≡ finished 0x8001 size → Whole m
   read-only size e =
@@ -252,7 +240,7 @@ stream-ends (Header n) head room input l r h =
 stream-ends (Reading n) head room input l r h =
     rw append-assoc
     (read-ends (head ++ (take n room ++ input)) head room input n (header-front head (take n room ++ input) l)
-    (omega (arith, length-append head (take n room ++ input), length-append (take n room) input, length-take-le n room (omega (arith, passes-fits (headerAt head 0) (h .1) .0))))
+    (omega (arith, length-append head (take n room ++ input), length-append (take n room) input, length-take-le n room (omega (arith, passes-all (headerAt head 0) (h .1) .short))))
     (header-behind head (take n room ++ input) l) (h .1) (h .0) r)
 stream-ends (Skipping n) head room input l r h =
     no-message (head ++ input) _ _

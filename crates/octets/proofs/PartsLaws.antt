@@ -6,10 +6,10 @@ use mathlib.Core.List.{List, [], _∷_, _++_, append-assoc}
 use Prim.Native.Nat.{ℕ, zero, suc, _+_, _*_, _-_, _≤_, _<_}
 use native.Mathlib.Omega.{arith}
 use native.Mathlib.Nat.{suc-mul}
-use lib.ListN.{length, getD, take, drop, set, length-append, length-take, length-drop, take-append-drop}
+use lib.ListN.{length, getD, take, drop, set, length-take, length-drop, take-append-drop}
 use lib.Seq.{take-at, drop-at, take-append-le, drop-append-le, drop-drop, length-take-le, take-add, getD-take, getD-drop}
 use Rattle.octets.specs.Put.{putAt}
-use Rattle.octets.proofs.PutLaws.{drop-putAt, length-putAt}
+use Rattle.octets.proofs.PutLaws.{drop-putAt}
 use Rattle.octets.specs.Parts.{part, parts, joined}
 
 module _ (b : List ℕ) (at : ℕ) (bs : List ℕ) (fits : at + length bs ≤ length b) where

@@ -1,12 +1,12 @@
 -- The laws of `putAt`, for this crate's proofs and those above it: lengths, what stands where, two puts in a row, and that
 -- a number that was put is read back.
 -- Assumes nothing.
-use mathlib.Core.Path.{_≡_, refl, sym, ap, _∙_}
+use mathlib.Core.Path.{_≡_, sym, ap, _∙_}
 use mathlib.Core.List.{List, [], _∷_, _++_, append-assoc}
-use Prim.Native.Nat.{ℕ, _+_, _*_, _/_, _%_, _≤_, _<_}
+use Prim.Native.Nat.{ℕ, _+_, _/_, _%_, _≤_, _<_}
 use native.Mathlib.Nat.{add-assoc, add-zero}
 use native.Mathlib.Omega.{arith}
-use lib.ListN.{length, getD, take, drop, length-append, length-take, length-drop, List·getD-append}
+use lib.ListN.{length, getD, take, drop, length-append, length-drop, List·getD-append}
 use lib.Seq.{take-at, drop-at, take-append-le, take-take, getD-append-add, drop-drop, length-take-le, paste-zero}
 use Rattle.octets.specs.Numbers.{u16At, u32At, be16, be32}
 use Rattle.octets.specs.Put.{putAt}

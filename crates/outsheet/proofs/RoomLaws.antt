@@ -10,6 +10,7 @@ use lib.ListN.{length, length-append, length-map}
 use borrow.Author.Tests.{eq-eqb}
 use Rattle.octets.specs.Choice.{pick}
 use Rattle.octets.specs.Search.{countIf}
+use Rattle.layout.specs.FarmRecord.{farmRecordSize}
 use Rattle.layout.specs.Layout.{identityBytes}
 use Rattle.layout.proofs.MessageLaws.{length-message}
 use Rattle.layout.proofs.IdentityLaws.{identity-short}
@@ -17,19 +18,15 @@ use Rattle.kinds.specs.declared.Reply.{Reply}
 use Rattle.kinds.specs.declared.Reply.the-variants.{Nack, Identity, Activation, AliveCheck, Status, PowerMode, Message, Ack, DiagnosticNack, Close, HandOn}
 use Rattle.kinds.specs.declared.Item.{Item}
 use Rattle.outsheet.specs.Sheet.{entryBytes, bodies, totalOf}
-use Rattle.outsheet.specs.Replies.{recordSize, identityOf, replyBytes, entryOf, entriesOf, isLong, isLongItem}
+use Rattle.outsheet.specs.Replies.{identityOf, replyBytes, entryOf, entriesOf, isLong, isLongItem}
 use Rattle.outsheet.specs.Plan.{planRoom, PlanOk, itemsOf}
-use Rattle.outsheet.specs.Contracts.{leastOutput, Room}
+use Rattle.outsheet.specs.Contracts.{leastOutput, longest, Room}
 use Rattle.outsheet.proofs.PlanLaws.{items-few}
 use Rattle.outsheet.proofs.SheetLaws.{length-entry}
 
 -- of a lent record, the identity is sent
-pub identity-sent : (v : ℕ) (farm : List ℕ) → length farm ≡ recordSize → identityOf v farm ≡ identityBytes v farm
-identity-sent v farm e = rw (eq-eqb (length farm) recordSize e)
-
--- the longest payload of a call
-abbrev pub longest : ℕ
-longest = 2048
+pub identity-sent : (v : ℕ) (farm : List ℕ) → length farm ≡ farmRecordSize → identityOf v farm ≡ identityBytes v farm
+identity-sent v farm e = rw (eq-eqb (length farm) farmRecordSize e)
 
 identity-most : (v : ℕ) (farm : List ℕ) (b : Bool) → length (pick b (identityBytes v farm) []) ≤ 40
 identity-most v farm true = identity-short v farm
@@ -38,7 +35,7 @@ identity-most v farm false = omega arith
 -- a short reply has 17 bytes at most, a long one 2,043 more
 reply-most : (v : ℕ) (long : List ℕ) → length long ≤ longest → (r : Reply) → length (replyBytes v long r) ≤ 17 + pick (isLong r) 1 0 * 2043
 reply-most v long h (Nack c) = omega arith
-reply-most v long h Identity = omega (arith, identity-most v long (eqb (length long) recordSize))
+reply-most v long h Identity = omega (arith, identity-most v long (eqb (length long) farmRecordSize))
 reply-most v long h (Activation a e c) = omega arith
 reply-most v long h AliveCheck = omega arith
 reply-most v long h (Status q o) = omega arith

@@ -13,6 +13,10 @@ use Rattle.outsheet.specs.Plan.{PlanOk, itemsOf}
 abbrev pub leastOutput : ℕ
 leastOutput = 4096
 
+-- the longest payload that a call is lent: "2,048 for each of 16 rows"
+abbrev pub longest : ℕ
+longest = 2048
+
 -- the entry has room at a place of a buffer of n bytes, and a u16 holds its length
 pub record Fits (e : Entry) (at n : ℕ) : Type 0 where
   pub small : length (e .bytes) < 65536

@@ -12,7 +12,7 @@ use Rattle.kinds.specs.declared.Reply.{Reply}
 use Rattle.kinds.specs.declared.Reply.the-variants.{Nack, Identity, Activation, AliveCheck, Status, PowerMode, Message, Ack, DiagnosticNack, Close, HandOn}
 use Rattle.kinds.specs.declared.Item.{Item}
 
--- the most items of a call (a tick of all farms has fewer), and the bytes of one
+-- how many items a plan has room for, and the bytes of one
 abbrev pub planRoom : ℕ
 planRoom = 72
 
@@ -24,22 +24,22 @@ abbrev pub planSize : ℕ
 planSize = 1 + planRoom * itemSize
 
 -- a reply in six bytes: its tag, a code, two numbers
-abbrev pub said : ℕ → ℕ → ℕ → ℕ → List ℕ
-said tag code a b = tag ∷ code ∷ be16 a ++ be16 b
+abbrev pub tagged : ℕ → ℕ → ℕ → ℕ → List ℕ
+tagged tag code a b = tag ∷ code ∷ be16 a ++ be16 b
 
 -- a status has two bytes to keep: the second stands in the upper byte of the first number
 abbrev pub replyImage : Reply → List ℕ
-replyImage (Nack c) = said 0 c 0 0
-replyImage Identity = said 1 0 0 0
-replyImage (Activation a e c) = said 2 c a e
-replyImage AliveCheck = said 3 0 0 0
-replyImage (Status q o) = said 4 q (o * 256) 0
-replyImage (PowerMode m) = said 5 m 0 0
-replyImage (Message k t) = said 6 0 k t
-replyImage (Ack t s c) = said 7 c t s
-replyImage (DiagnosticNack t s c) = said 8 c t s
-replyImage Close = said 9 0 0 0
-replyImage HandOn = said 10 0 0 0
+replyImage (Nack c) = tagged 0 c 0 0
+replyImage Identity = tagged 1 0 0 0
+replyImage (Activation a e c) = tagged 2 c a e
+replyImage AliveCheck = tagged 3 0 0 0
+replyImage (Status q o) = tagged 4 q (o * 256) 0
+replyImage (PowerMode m) = tagged 5 m 0 0
+replyImage (Message k t) = tagged 6 0 k t
+replyImage (Ack t s c) = tagged 7 c t s
+replyImage (DiagnosticNack t s c) = tagged 8 c t s
+replyImage Close = tagged 9 0 0 0
+replyImage HandOn = tagged 10 0 0 0
 
 -- row, version, reply
 abbrev pub itemImage : Item → List ℕ

@@ -10,6 +10,7 @@ use Rattle.octets.specs.Choice.{pick}
 use Rattle.kinds.specs.declared.Reply.{Reply}
 use Rattle.kinds.specs.declared.Reply.the-variants.{Nack, Identity, Activation, AliveCheck, Status, PowerMode, Message, Ack, DiagnosticNack, Close, HandOn}
 use Rattle.kinds.specs.declared.Item.{Item}
+use Rattle.layout.specs.FarmRecord.{farmRecordSize}
 use Rattle.layout.specs.Layout.{nackBytes, identityBytes, activationBytes, aliveCheckBytes, statusBytes, powerModeBytes, messageBytes, ackBytes, diagnosticNackBytes}
 use Rattle.outsheet.specs.Sheet.{Entry, entry}
 
@@ -36,14 +37,10 @@ kindOf (DiagnosticNack t s c) = send
 kindOf Close = close
 kindOf HandOn = handOn
 
--- "Farm, 33 bytes"
-abbrev pub recordSize : ℕ
-recordSize = 33
-
--- 0004 of the farm whose record is lent. Bytes of another length are no farm's record, and there is nothing to say of them;
--- so that no call has to show that it lends a record where it sends no identity.
+-- 0004 of the farm whose record is lent. Bytes of another length are no farm's record, and nothing is sent of them: a call that
+-- sends no identity then need not show that it lends a record (DECISIONS, D4).
 abbrev pub identityOf : ℕ → List ℕ → List ℕ
-identityOf version farm = pick (eqb (length farm) recordSize) (identityBytes version farm) []
+identityOf version farm = pick (eqb (length farm) farmRecordSize) (identityBytes version farm) []
 
 abbrev pub replyBytes : ℕ → List ℕ → Reply → List ℕ
 replyBytes version long (Nack c) = nackBytes version c

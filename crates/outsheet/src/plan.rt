@@ -6,7 +6,7 @@ ghost use mathlib.Core.Path.{_≡_};
 ghost use Prim.Native.Nat.{_*_, _<_};
 ghost use mathlib.Core.List.{[], _∷_};
 ghost use lib.ListN.{length, getD};
-ghost use Rattle.outsheet.specs.Plan.{planSize, said, itemImage, replyFrom, noItem, itemsOf, PlanOk, Said, pushedTo};
+ghost use Rattle.outsheet.specs.Plan.{planSize, tagged, itemImage, replyFrom, noItem, itemsOf, PlanOk, Said, pushedTo};
 
 // The most items of a plan, and the bytes of one.
 const ROOM: u8 = 72;
@@ -17,8 +17,8 @@ const SIZE: usize = 8;
 pub const PLAN: usize = 1 + ROOM as usize * SIZE;
 
 // An item's eight bytes, from its numbers.
-fn laid(row: RowNo, version: u8, tag: u8, code: u8, a: u16, b: u16) -> [u8; SIZE]
-    ensures { λ r. ⌜ r ≡ row .0 ∷ version ∷ said tag code a b ⌝ }
+fn image(row: RowNo, version: u8, tag: u8, code: u8, a: u16, b: u16) -> [u8; SIZE]
+    ensures { λ r. ⌜ r ≡ row .0 ∷ version ∷ tagged tag code a b ⌝ }
 {
     [
         row.0,
@@ -32,12 +32,14 @@ fn laid(row: RowNo, version: u8, tag: u8, code: u8, a: u16, b: u16) -> [u8; SIZE
     ]
 }
 
+// A byte as the upper half of a number: a status has two bytes to keep, and an item has room for one code.
 fn upper(x: u8) -> u16
     ensures { λ r. ⌜ r ≡ x * 256 ⌝ }
 {
     (x as u16) * 256
 }
 
+// The tags are this crate's own; `reply_from` is the other way.
 fn item_bytes(it: Item) -> [u8; SIZE]
     ensures { λ r. ⌜ r ≡ itemImage it ⌝ }
 {
@@ -45,17 +47,17 @@ fn item_bytes(it: Item) -> [u8; SIZE]
     let version = it.version;
     let what = it.reply;
     match what {
-        Reply::Nack(c) => laid(row, version, 0, c, 0, 0),
-        Reply::Identity => laid(row, version, 1, 0, 0, 0),
-        Reply::Activation(a, e, c) => laid(row, version, 2, c, a, e),
-        Reply::AliveCheck => laid(row, version, 3, 0, 0, 0),
-        Reply::Status(q, o) => laid(row, version, 4, q, upper(o), 0),
-        Reply::PowerMode(m) => laid(row, version, 5, m, 0, 0),
-        Reply::Message(k, t) => laid(row, version, 6, 0, k, t),
-        Reply::Ack(t, s, c) => laid(row, version, 7, c, t, s),
-        Reply::DiagnosticNack(t, s, c) => laid(row, version, 8, c, t, s),
-        Reply::Close => laid(row, version, 9, 0, 0, 0),
-        Reply::HandOn => laid(row, version, 10, 0, 0, 0),
+        Reply::Nack(c) => image(row, version, 0, c, 0, 0),
+        Reply::Identity => image(row, version, 1, 0, 0, 0),
+        Reply::Activation(a, e, c) => image(row, version, 2, c, a, e),
+        Reply::AliveCheck => image(row, version, 3, 0, 0, 0),
+        Reply::Status(q, o) => image(row, version, 4, q, upper(o), 0),
+        Reply::PowerMode(m) => image(row, version, 5, m, 0, 0),
+        Reply::Message(k, t) => image(row, version, 6, 0, k, t),
+        Reply::Ack(t, s, c) => image(row, version, 7, c, t, s),
+        Reply::DiagnosticNack(t, s, c) => image(row, version, 8, c, t, s),
+        Reply::Close => image(row, version, 9, 0, 0, 0),
+        Reply::HandOn => image(row, version, 10, 0, 0, 0),
     }
 }
 

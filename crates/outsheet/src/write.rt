@@ -124,6 +124,7 @@ fn put_entry(out: &mut [u8], at: usize, it: Item, long: &[u8]) -> usize
             let b = layout::diagnostic_nack(v, t, s, c);
             put_bytes(out, at, row, SEND, &b)
         }
+        // No bytes: the empty front of what is lent.
         Reply::Close => put_bytes(out, at, row, CLOSE, &long[..0]),
         Reply::HandOn => put_bytes(out, at, row, HAND_ON, long),
     }

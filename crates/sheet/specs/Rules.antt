@@ -10,7 +10,7 @@ use Rattle.sheet.specs.Sheet.{entityOf, quotaOf, modeOf, addressAt, farm
 use Rattle.sheet.specs.Rows.{firstRow}
 
 -- "Header, 12 bytes: three u16 counts (farms 1 to 4, testers 0 to 32, targets 0 to 64), then three u16 offsets. The three sections follow
--- in that order without gaps, and the sheet ends where the last one ends." (the offset of an empty section too: open point A1)
+-- in that order without gaps, and the sheet ends where the last one ends." (the offset of an empty section too: DECISIONS, A1)
 pub record GoodHead (s : List ℕ) : Type 0 where
   pub farmsAtLeast : 1 ≤ farmCount s
   pub farmsAtMost : farmCount s ≤ mostFarms
@@ -21,7 +21,7 @@ pub record GoodHead (s : List ℕ) : Type 0 where
   pub targetsFollowTesters : targetsOffset s ≡ targetsAt s
   pub endsWithTargets : length s ≡ endAt s
 
--- "Farm, 33 bytes: entity address u16, quota q (1 to 8), power mode (0 to 2)", "no address is 0" (the entity's too: A2)
+-- "Farm, 33 bytes: entity address u16, quota q (1 to 8), power mode (0 to 2)", "no address is 0" (the entity's too: DECISIONS, A2)
 pub record GoodFarm (s : List ℕ) (f : ℕ) : Type 0 where
   pub entityNotZero : 0 < entityOf s f
   pub quotaAtLeast : 1 ≤ quotaOf s f
@@ -40,7 +40,7 @@ pub record GoodKnown (s : List ℕ) (at i farms most : ℕ) : Type 0 where
   pub farmExists : farmOfAt s at i < farms
   pub flagAtMost : flagAt s at i ≤ most
 
--- "Testers ascend strictly by address, targets likewise" (over the whole section: A4)
+-- "Testers ascend strictly by address, targets likewise" (over the whole section: DECISIONS, A4)
 pub record GoodSection (s : List ℕ) (at n farms most : ℕ) : Type 0 where
   pub eachKnown : (i : ℕ) → i < n → GoodKnown s at i farms most
   pub addressesAscend : (i j : ℕ) → i < j → j < n → addressAt s at i < addressAt s at j

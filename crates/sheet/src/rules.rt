@@ -25,6 +25,7 @@ const MOST_QUOTA: u8 = 8;
 const MOST_MODE: u8 = 2;
 
 const MOST_ROWS: u8 = 16;
+
 // A tester's fourth byte is zero, a target's is reachable 0 or 1.
 const TESTER_FLAG: u8 = 0;
 

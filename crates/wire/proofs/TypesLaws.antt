@@ -1,8 +1,7 @@
--- The table of types: how long it is, and that it allows what is tried first.
+-- The table of types: how long it is.
 -- Assumes nothing.
 use mathlib.Core.Path.{_≡_, refl}
 use lib.ListN.{length}
-use Prim.Native.Nat.{ℕ}
 use Rattle.wire.specs.Types.{types}
 
 pub types-length : length types ≡ 14

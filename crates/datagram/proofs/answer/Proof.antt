@@ -7,8 +7,6 @@ use native.Mathlib.Omega.{arith}
 use denote.Ref.{now}
 use lib.ListN.{length, drop, take, length-drop}
 use lib.Seq.{take-all}
-use Rattle.kinds.specs.declared.Reply.the-variants.{Nack}
-use Rattle.kinds.specs.declared.Answer.the-variants.{With}
 use Rattle.kinds.specs.declared.DatagramVerdict.the-variants.{Passes}
 use Rattle.wire.specs.declared.header.Header.{Header}
 use Rattle.wire.specs.Header.{headerAt}

@@ -1,7 +1,7 @@
 -- `datagram::judge` meets its contract: what is never answered first, then the header's own order.
 -- Assumes nothing.
 use mathlib.Core.Path.{_≡_, sym, ap, _∙_}
-use Prim.Native.Nat.{ℕ, _-_}
+use Prim.Native.Nat.{_-_}
 use borrow.Author.Tests.{ne-eqb, eq-eqb, lt-leb, le-leb}
 use denote.Ref.{now}
 use lib.ListN.{length}

@@ -5,10 +5,11 @@ use native.Mathlib.Omega.{arith}
 use lib.ListN.{length}
 use denote.Ref.{now}
 use borrow.Author.Tests.{eq-eqb, ne-eqb}
+use Rattle.layout.specs.FarmRecord.{farmRecordSize}
 use Rattle.layout.specs.Layout.{identityBytes}
 use Rattle.layout.proofs.IdentityLaws.{length-identity}
 use Rattle.outsheet.specs.Sheet.{entry, entryBytes}
-use Rattle.outsheet.specs.Replies.{send, recordSize}
+use Rattle.outsheet.specs.Replies.{send}
 use Rattle.outsheet.specs.Contracts.{Fits}
 use Rattle.outsheet.proofs.SheetLaws.{entered}
 use borrow.Author.Needs.{needs}
@@ -16,9 +17,9 @@ use Rattle.outsheet.proofs.write.put_identity.Statement.{statement}
 use Rattle.outsheet.proofs.write.put_identity.Tie as tie
 
 -- what is asked for, where a record is lent
-fits : (s : tie.Start) → let a = s .args in length (now (a .farm)) ≡ recordSize
+fits : (s : tie.Start) → let a = s .args in length (now (a .farm)) ≡ farmRecordSize
     → Fits (entry (a .row .0) send (identityBytes (a .version) (now (a .farm)))) (a .at) (length (now (a .out)))
-fits s is = rw (eq-eqb (length (now (s .args .farm))) recordSize is) at (s .pre)
+fits s is = rw (eq-eqb (length (now (s .args .farm))) farmRecordSize is) at (s .pre)
 
 put-head-requires : tie.Need-put-head-requires
 put-head-requires c κs = search needs
@@ -52,7 +53,7 @@ returns c =
     let s = c .before .before .before .before .before .before .before .before .before .before .before in
     let a = s .args in
     let is = c .before .before .before .before .before .before .before .before .if1 .taken in
-    rw (eq-eqb (length (now (a .farm))) recordSize is)
+    rw (eq-eqb (length (now (a .farm))) farmRecordSize is)
     (entered (a .row .0) send _ (identityBytes (a .version) (now (a .farm))) (now (a .out)) _ _ (a .at) _ _ (sym (length-identity (a .version) (now (a .farm)) is)) (fits s is) (c .before .before .before .before .before .before .put-head .ensures) refl (c .before .before .put-identity .ensures) refl)
 
 same-length-2 : tie.Need-same-length-2
@@ -62,7 +63,7 @@ returns-2 : tie.Need-returns-2
 unfolding entryBytes
 returns-2 c =
     let a = c .before .before .before .before .before .before .before .args in
-    rw (ne-eqb (length (now (a .farm))) recordSize (c .before .before .before .before .if1 .left))
+    rw (ne-eqb (length (now (a .farm))) farmRecordSize (c .before .before .before .before .if1 .left))
     (record { place = refl; bytes = c .before .before .put-head2 .ensures })
 
 pub put-identity-spec : {M : Type 1} → statement M

@@ -1,11 +1,10 @@
 -- `wire::header::judge` meets its contract: at each return the tests that led there say which rule of `verdictOf` decides.
 -- Assumes nothing.
 use mathlib.Core.Path.{_≡_, sym, _∙_}
-use mathlib.Core.Bool.{true, false}
-use lib.Dec.{leb}
+use mathlib.Core.Bool.{true}
 use borrow.Author.Tests.{ne-eqb, eq-eqb, not-true, not-false, lt-leb, le-leb}
-use Rattle.wire.specs.Types.{tcp, knownOn, lengthFits}
-use Rattle.wire.specs.Header.{verdictOf, rightPattern, mostPayload}
+use Rattle.wire.specs.Types.{tcp, knownOn}
+use Rattle.wire.specs.Header.{verdictOf, rightPattern}
 use Rattle.wire.proofs.HeaderLaws.{everyday-passes}
 use borrow.Author.Needs.{needs}
 use Rattle.wire.proofs.header.judge.Statement.{statement}
