@@ -2,6 +2,8 @@ pub mod Cases
 pub mod Rows
 pub mod Seats
 pub mod Split
+pub mod TidyRows
+pub mod Tidy
 pub mod HandOnNone
 pub mod HandOnStream
 pub mod HandOn

@@ -1,12 +1,12 @@
 -- "A table breaks the rules if: ..": rule 4 for one farm, a field for each rule.
 -- Assumes nothing: these are definitions.
-use Prim.Native.Nat.{ℕ, _≤_, _<_}
+use Prim.Native.Nat.{ℕ, _-_, _≤_, _<_}
 use mathlib.Core.Path.{_≡_}
 use mathlib.Core.Bool.{Bool, true, false}
 use mathlib.Core.Logic.{_⊎_}
 use mathlib.Core.List.{List, [], _∷_}
 use lib.Dec.{eqb}
-use lib.ListN.{length}
+use lib.ListN.{length, drop, replicate}
 use Prim.{Unit}
 use Rattle.octets.specs.Choice.{one}
 use Rattle.octets.specs.Search.{countIf}
@@ -22,7 +22,7 @@ use Rattle.kinds.specs.declared.Verdict.the-variants.{Passes, Wrong}
 use Rattle.kinds.specs.declared.HeadVerdict.the-variants.{Pending}
 use Rattle.wire.specs.Header.{headerSize, headerAt, verdictOf}
 use Rattle.model.specs.FarmSheet.{FarmSheet}
-use Rattle.model.specs.Row.{checkLimit, boundary, noHead, rowAt, isOpen, isWaiting, isActive, activeAs, atLimit}
+use Rattle.model.specs.Row.{checkLimit, boundary, noHead, rowAt, isFree, isOpen, isWaiting, isActive, activeAs, atLimit}
 use Rattle.model.specs.Farm.{Farm, seatCount}
 use Rattle.model.specs.Line.{isMarked, isAsked, headVerdict}
 
@@ -38,6 +38,17 @@ PossibleAt (Reading n) head = (n < headerAt head 0 .length) × (verdictOf (heade
 PossibleAt (Skipping n) head =
     (n < headerAt head 0 .length) ×
     ((verdictOf (headerAt head 0) ≡ Wrong UnknownType) ⊎ (verdictOf (headerAt head 0) ≡ Wrong TooLong))
+
+-- what means nothing has one value: header bytes that are not in hand are 0, and a free row is between two messages
+abbrev pub TidyAt : Place → List ℕ → Type 0
+TidyAt (Header n) head = drop n head ≡ replicate (headerSize - n) 0
+TidyAt (Reading n) head = Unit {0}
+TidyAt (Skipping n) head = Unit {0}
+
+pub record Tidy (r : Row) : Type 0 where
+  pub eight : length (r .head) ≡ headerSize
+  pub unused : TidyAt (r .place) (r .head)
+  pub freed : isFree r ≡ true → r .place ≡ boundary
 
 -- what holds of a row by its state alone
 abbrev pub RowKeeps : FarmSheet → Row → RowState → Type 0

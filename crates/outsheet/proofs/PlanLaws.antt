@@ -10,7 +10,7 @@ use lib.Dec.{ltb}
 use lib.ListN.{length, getD, set, take, replicate, length-map, length-append, length-set, length-replicate, List·getD-map}
 use lib.Seq.{drop-set-lt, getD-set-same}
 use borrow.Author.Tests.{lt-ltb, le-ltb, ltb-true}
-use Rattle.octets.specs.Choice.{pick}
+use Rattle.octets.specs.Choice.{pick, one}
 use Rattle.octets.specs.Numbers.{u16At}
 use Rattle.octets.specs.Put.{putAt}
 use Rattle.octets.specs.Parts.{part, parts}
@@ -203,17 +203,17 @@ pushed-few items it h = few (ltb (length items) planRoom) refl
     few true e = omega (arith, ltb-true (length items) planRoom e, length-append items (it ∷ []))
     few false e = h
 
-count-snoc : (f : Item → Bool) (items : List Item) (it : Item) → countIf f (items ++ (it ∷ [])) ≡ countIf f items + pick (f it) 1 0
+count-snoc : (f : Item → Bool) (items : List Item) (it : Item) → countIf f (items ++ (it ∷ [])) ≡ countIf f items + one (f it)
 unfolding countIf
 count-snoc f [] it = omega arith
 count-snoc f (x ∷ items) it = omega (arith, count-snoc f items it)
 
 -- what is counted goes up by one at most, and not at all where the new item isn't counted
-pub count-pushed : (f : Item → Bool) (items : List Item) (it : Item) → countIf f (pushedTo items it) ≤ countIf f items + pick (f it) 1 0
+pub count-pushed : (f : Item → Bool) (items : List Item) (it : Item) → countIf f (pushedTo items it) ≤ countIf f items + one (f it)
 unfolding pushedTo
 count-pushed f items it = most (ltb (length items) planRoom)
   where
-    most : (b : Bool) → countIf f (pick b (items ++ (it ∷ [])) items) ≤ countIf f items + pick (f it) 1 0
+    most : (b : Bool) → countIf f (pick b (items ++ (it ∷ [])) items) ≤ countIf f items + one (f it)
     most true = omega (arith, count-snoc f items it)
     most false = omega arith
 
@@ -222,5 +222,5 @@ unfolding pushedTo
 count-passed f items it e = same (ltb (length items) planRoom)
   where
     same : (b : Bool) → countIf f (pick b (items ++ (it ∷ [])) items) ≡ countIf f items
-    same true = let z : _≡_ {A = ℕ} (pick (f it) 1 0) 0 = ap (λ (b : Bool). pick b 1 0) e in omega (arith, count-snoc f items it)
+    same true = let z : _≡_ {A = ℕ} (one (f it)) 0 = ap one e in omega (arith, count-snoc f items it)
     same false = refl

@@ -8,7 +8,7 @@ use native.Mathlib.Omega.{arith}
 use lib.Dec.{eqb}
 use lib.ListN.{length, length-append, length-map}
 use borrow.Author.Tests.{eq-eqb}
-use Rattle.octets.specs.Choice.{pick}
+use Rattle.octets.specs.Choice.{pick, one}
 use Rattle.octets.specs.Search.{countIf}
 use Rattle.layout.specs.FarmRecord.{farmRecordSize}
 use Rattle.layout.specs.Layout.{identityBytes}
@@ -33,7 +33,7 @@ identity-most v farm true = identity-short v farm
 identity-most v farm false = omega arith
 
 -- a short reply has 17 bytes at most, a long one 2,043 more
-reply-most : (v : ℕ) (long : List ℕ) → length long ≤ longest → (r : Reply) → length (replyBytes v long r) ≤ 17 + pick (isLong r) 1 0 * 2043
+reply-most : (v : ℕ) (long : List ℕ) → length long ≤ longest → (r : Reply) → length (replyBytes v long r) ≤ 17 + one (isLong r) * 2043
 reply-most v long h (Nack c) = omega arith
 reply-most v long h Identity = omega (arith, identity-most v long (eqb (length long) farmRecordSize))
 reply-most v long h (Activation a e c) = omega arith
