@@ -3,3 +3,5 @@ pub mod Headers
 pub mod Rig
 pub mod Histories
 pub mod Table
+pub mod Entries
+pub mod Further

@@ -7,7 +7,7 @@ use Rattle.octets.specs.Numbers.{u16At, be16, be32}
 use Rattle.octets.specs.Parts.{part, joined}
 use Rattle.outsheet.specs.Sheet.{sheetOf}
 use Rattle.outsheet.specs.Replies.{entriesOf}
-use Rattle.model.specs.Table.{Table, Call, bytesFrom, tick, Lent, Outcome, refuses, did, tableOf}
+use Rattle.model.specs.Table.{Table, Call, bytesFrom, tick, Lent, Outcome, refuses, did, tookOf, tableOf}
 use Rattle.model.specs.History.{Made, fresh, stepOf, run}
 
 -- ---- farm sheets: "Header, 12 bytes: three u16 counts .., then three u16 offsets. The three sections follow in that order without gaps"
@@ -96,3 +96,7 @@ nothing = 0x00 ∷ 0x00 ∷ 0x00 ∷ 0x04 ∷ []
 -- the bytes of the first entry: "a u16 offset per entry, then entries: row, kind, u16 length, bytes"
 abbrev pub firstEntry : List ℕ → List ℕ
 firstEntry sheet = part sheet (u16At sheet 4 + 4) (u16At sheet (u16At sheet 4 + 2))
+
+-- the bytes that a call takes
+unfoldable pub taken : List ℕ → List Call → Call → ℕ
+taken s before c = tookOf (stepOf s (tableAfter s before) (made c))
