@@ -36,25 +36,25 @@ use Rattle.model.specs.Move.{Own, bytes, Held, Given, Move, refused, gav
 use Rattle.model.specs.Rule.{Good}
 use Rattle.model.proofs.Cases.{pick-case, split}
 use Rattle.model.proofs.Rows.{row-set}
-use Rattle.model.proofs.HandOnNone.{handOns, None, hands-append, none-quiet, none-one, none-then, none-closed, none-answered, none-joined, none-settle}
+use Rattle.model.proofs.HandOnNone.{isHandOn, handOns, NoHandOn, said-append, none-quiet, none-one, none-then, none-closed, none-joined, settle-hands-none, answered-hands-none}
 use Rattle.model.proofs.HandOnStream.{inHandBytes, Whole, payloadOf, Ends, stream-ends}
 
 -- ---- what a finished message says
 
 module _ (own : FarmSheet) (seat : ℕ) where
-  none-requested : (q : Request) (f : Farm) → None (requested own seat q f)
+  none-requested : (q : Request) (f : Farm) → NoHandOn (requested own seat q f)
   unfolding requested
   none-requested q f = go (decide own (f .rows) seat q)
     where
-      go : (d : Decision) → None (decidedBy own seat q d f)
-      go (Now code) = none-answered own seat (q .address) code f
-      go (Ask check) = none-joined own seat q f
+      go : (d : Decision) → NoHandOn (decidedBy own seat q d f)
+      go (Now code) = answered-hands-none own seat (q .address) code f
+      go (Ask check) = none-joined isHandOn refl own seat q f
 
-  none-faulted : (fault : Fault) (f : Farm) → None (faulted own seat fault f)
+  none-faulted : (fault : Fault) (f : Farm) → NoHandOn (faulted own seat fault f)
   none-faulted fault f =
-      pick-case None (closes fault) _ _
-      (λ t. none-then _ (closed own seat) (none-one (says own seat (Nack (codeOf fault))) refl) (none-closed own seat f))
-      (λ t. none-one (says own seat (Nack (codeOf fault))) refl)
+      pick-case NoHandOn (closes fault) _ _
+      (λ t. none-then isHandOn _ (closed own seat) (none-one isHandOn (says own seat (Nack (codeOf fault))) refl) (none-closed isHandOn refl own seat f))
+      (λ t. none-one isHandOn (says own seat (Nack (codeOf fault))) refl)
 
   -- the two entries of a message that is handed on
   abbrev pub acked : Parties → List Item
@@ -78,8 +78,8 @@ module _ (own : FarmSheet) (seat : ℕ) where
       (λ t h.
         absurd
         (omega
-        (arith, h, none-then (does f (says own seat (DiagnosticNack (e .target) (e .source) 0x02) ∷ [])) (closed own seat)
-        (none-one (says own seat (DiagnosticNack (e .target) (e .source) 0x02)) refl) (none-closed own seat f))))
+        (arith, h, none-then isHandOn (does f (says own seat (DiagnosticNack (e .target) (e .source) 0x02) ∷ [])) (closed own seat)
+        (none-one isHandOn (says own seat (DiagnosticNack (e .target) (e .source) 0x02)) refl) (none-closed isHandOn refl own seat f))))
 
   diagnosed-says : (e : Parties) (f : Farm) → Welcome e (rowAt (f .rows) seat) → diagnosed own seat e f ≡ does f (acked e)
   unfolding diagnosed
@@ -89,17 +89,17 @@ module _ (own : FarmSheet) (seat : ℕ) where
   event-only : (e : Event) (room : List ℕ) (f : Farm) → 1 ≤ handOns (eventDone own seat e room f .items)
       → (size : ℕ) × (e ≡ finished 0x8001 size) × Welcome (endsIn (take size room)) (rowAt (f .rows) seat)
   unfolding eventDone
-  event-only inputEnded room f = λ h. absurd (omega (arith, none-quiet))
+  event-only inputEnded room f = λ h. absurd (omega (arith, (none-quiet isHandOn)))
   event-only (wrong fault) room f = λ h. absurd (omega (arith, none-faulted fault f))
-  event-only (skipped size) room f = λ h. absurd (omega (arith, none-quiet))
+  event-only (skipped size) room f = λ h. absurd (omega (arith, (none-quiet isHandOn)))
   event-only (finished kind size) room f =
       pick-case P (eqb kind 0x0005) _ _ (λ t h. absurd (omega (arith, none-requested (requestIn (take size room)) f)))
       (λ t.
-        pick-case P (eqb kind 0x0008) _ _ (λ t h. absurd (omega (arith, none-quiet)))
+        pick-case P (eqb kind 0x0008) _ _ (λ t h. absurd (omega (arith, (none-quiet isHandOn))))
         (λ t.
           pick-case P (eqb kind 0x8001) _ _
           (λ t h. (size, ap (λ k. finished k size) (eqb-true kind 0x8001 t), diagnosed-only (endsIn (take size room)) f h))
-          (λ t h. absurd (omega (arith, none-quiet)))))
+          (λ t h. absurd (omega (arith, (none-quiet isHandOn))))))
     where
       P : Done → Type 0
       P d = 1 ≤ handOns (d .items) → (n : ℕ) × (finished kind size ≡ finished 0x8001 n) × Welcome (endsIn (take n room)) (rowAt (f .rows) seat)
@@ -175,7 +175,7 @@ module _ (own : FarmSheet) (seat : ℕ) (f : Farm) (t : Taken) where
     bytes-only h =
         go
         (event-only own seat (t .event) (t .stream .room) (heard seat t f)
-        (omega (arith, hands-append (d .items) (settle own (d .farm) .items), none-settle own (d .farm), h)))
+        (omega (arith, said-append isHandOn (d .items) (settle own (d .farm) .items), settle-hands-none own (d .farm), h)))
       where
         d : Done
         d = eventDone own seat (t .event) (t .stream .room) (heard seat t f)
@@ -196,7 +196,7 @@ module _ (own : FarmSheet) (seat : ℕ) (f : Farm) (t : Taken) where
           does (heard seat t f) (acked own seat (endsIn (take (headerAt m 0 .length) (t .stream .room)))) =
           event-says own seat (t .event) (headerAt m 0 .length) (t .stream .room) (heard seat t f) (ends .finishes (r .message))
           (welcome-is (take (headerAt m 0 .length) (t .stream .room)) (payloadOf m) (ends .stores (r .message)) (r .sender, r .controller)) in
-        (settle own (heard seat t f) .items, rw (e, ends .stores (r .message)) refl, none-settle own (heard seat t f))
+        (settle own (heard seat t f) .items, rw (e, ends .stores (r .message)) refl, settle-hands-none own (heard seat t f))
 
     bytes-long : Whole m → payloadBy (t .event) (t .stream .room) ≡ payloadOf m
     bytes-long w = rw (ends .finishes w) (ends .stores w)

@@ -31,7 +31,7 @@ use Rattle.model.specs.Farm.{Farm, Done, quietly, andThen, says, closed,
 use Rattle.model.specs.Line.{cleared, left, settle}
 use Rattle.model.specs.Move.{Own, connect, bytes, peerClosed, linkLost, datagram, controller, Held, Given, Move, refused, gave, moves, connectedAt, connects, peerGone, linkGone, clockRun, aged, ticked, openRows, answers, datagramMove, mostUser, isTarget, toTester, controllerMove, move, tickMove}
 use Rattle.model.proofs.Cases.{pick-case, unless-case}
-use Rattle.model.proofs.HandOnNone.{handOns, None, isHandOnReply, hands-append, none-quiet, none-one, none-then, none-closed, none-closings, none-left, none-settle}
+use Rattle.model.proofs.HandOnNone.{isHandOn, handOns, NoHandOn, none-quiet, none-one, none-then, none-closed, none-closings, none-left, settle-hands-none}
 
 -- a call that takes bytes
 abbrev pub isBytes : Own → Bool
@@ -82,23 +82,23 @@ module _ (own : FarmSheet) (h : Held) where
   none-connects = go (firstAt isFree 0 (take (own .rows) (h .farm .rows)))
     where
       go : (at : Found) → NoneOn (connectedAt own h at)
-      go Nothing = none-quiet
-      go (At seat) = none-quiet
+      go Nothing = (none-quiet isHandOn)
+      go (At seat) = (none-quiet isHandOn)
 
-  none-peer : (seat : ℕ) (f : Farm) → None (peerGone own seat f)
+  none-peer : (seat : ℕ) (f : Farm) → NoHandOn (peerGone own seat f)
   unfolding peerGone
   none-peer seat f =
-      none-then _ (settle own) (none-then (closed own seat f) (left own seat) (none-closed own seat f) (none-left own seat _)) (none-settle own _)
+      none-then isHandOn _ (settle own) (none-then isHandOn (closed own seat f) (left own seat) (none-closed isHandOn refl own seat f) (none-left isHandOn refl own seat _)) (settle-hands-none own _)
 
-  none-link : (f : Farm) → None (linkGone own f)
+  none-link : (f : Farm) → NoHandOn (linkGone own f)
   unfolding linkGone
-  none-link f = none-then (closedWhere own (λ seat r. isOpen r) f) _ (none-closings own (λ seat r. isOpen r) f) none-quiet
+  none-link f = none-then isHandOn (closedWhere own (λ seat r. isOpen r) f) _ (none-closings isHandOn refl own (λ seat r. isOpen r) f) (none-quiet isHandOn)
 
-  none-ticked : (f : Farm) → None (ticked own f)
+  none-ticked : (f : Farm) → NoHandOn (ticked own f)
   unfolding ticked
   none-ticked f =
-      none-then (closedWhere own (λ seat r. atLimit r) (aged (clockRun (f .line) f))) (settle own)
-      (none-closings own (λ seat r. atLimit r) (aged (clockRun (f .line) f))) (none-settle own _)
+      none-then isHandOn (closedWhere own (λ seat r. atLimit r) (aged (clockRun (f .line) f))) (settle own)
+      (none-closings isHandOn refl own (λ seat r. atLimit r) (aged (clockRun (f .line) f))) (settle-hands-none own _)
 
   none-datagram : (input : List ℕ) → NoneOn (datagramMove own h input)
   unfolding datagramMove answerTo
@@ -107,20 +107,20 @@ module _ (own : FarmSheet) (h : Held) where
   none-controller : (from to : ℕ) (user : List ℕ) → NoneOn (controllerMove own h from to user)
   unfolding controllerMove
   none-controller from to user =
-      unless-case NoneOn (leb 1 (length user)) _ _ (λ t. none-quiet)
-      (λ t. unless-case NoneOn (leb (length user) mostUser) _ _ (λ t. none-quiet)
-      (λ t. unless-case NoneOn (isTarget (own .target from)) _ _ (λ t. none-quiet) (λ t. go (firstAt (activeAs to) 0 (h .farm .rows)))))
+      unless-case NoneOn (leb 1 (length user)) _ _ (λ t. (none-quiet isHandOn))
+      (λ t. unless-case NoneOn (leb (length user) mostUser) _ _ (λ t. (none-quiet isHandOn))
+      (λ t. unless-case NoneOn (isTarget (own .target from)) _ _ (λ t. (none-quiet isHandOn)) (λ t. go (firstAt (activeAs to) 0 (h .farm .rows)))))
     where
       go : (at : Found) → NoneOn (toTester own h from to user at)
-      go Nothing = none-quiet
-      go (At seat) = none-one (says own seat (Message from to)) refl
+      go Nothing = (none-quiet isHandOn)
+      go (At seat) = none-one isHandOn (says own seat (Message from to)) refl
 
   none-move : (c : Own) → isBytes c ≡ false → NoneOn (move own h c)
   unfolding move
   none-move connect e = none-connects
   none-move (bytes seat input) e = absurd (false≢true (sym e))
   none-move (peerClosed seat) e =
-      pick-case NoneOn (isOpen (rowAt (h .farm .rows) seat)) _ _ (λ t. none-peer seat (h .farm)) (λ t. none-quiet)
+      pick-case NoneOn (isOpen (rowAt (h .farm .rows) seat)) _ _ (λ t. none-peer seat (h .farm)) (λ t. (none-quiet isHandOn))
   none-move linkLost e = none-link (h .farm)
   none-move (datagram input) e = none-datagram input
   none-move (controller from to user) e = none-controller from to user

@@ -1,4 +1,4 @@
--- Closings, answers, checks and settling hand nothing on.
+-- What closings, answers, checks and settling do not say; so they hand nothing on.
 -- Assumes nothing.
 use Prim.Native.Nat.{ℕ, zero, suc, _+_, _≤_}
 use mathlib.Core.Path.{_≡_, refl, ap}
@@ -26,118 +26,148 @@ use Rattle.model.specs.Line.{accepted, socketRules, asks, askedIf, askin
 use Rattle.model.proofs.Cases.{pick-case}
 use Rattle.model.proofs.Seats.{seatsTo}
 
--- "3 hand on": the entry hands a payload on to a controller
-abbrev pub isHandOnReply : Reply → Bool
-isHandOnReply (Nack c) = false
-isHandOnReply Identity = false
-isHandOnReply (Activation a e c) = false
-isHandOnReply AliveCheck = false
-isHandOnReply (Status q o) = false
-isHandOnReply (PowerMode m) = false
-isHandOnReply (Message k t) = false
-isHandOnReply (Ack t s c) = false
-isHandOnReply (DiagnosticNack t s c) = false
-isHandOnReply Close = false
-isHandOnReply HandOn = true
+-- how many entries say such a reply
+abbrev pub said : (Reply → Bool) → List Item → ℕ
+said p items = countIf (λ (it : Item). p (it .reply)) items
 
--- how many entries hand a payload on
-abbrev pub handOns : List Item → ℕ
-handOns items = countIf (λ (it : Item). isHandOnReply (it .reply)) items
+-- none does
+abbrev pub None : (Reply → Bool) → Done → Type 0
+None p d = said p (d .items) ≡ 0
 
--- nothing is handed on
-abbrev pub None : Done → Type 0
-None d = handOns (d .items) ≡ 0
+module _ (p : Reply → Bool) where
+  pub said-append : (xs ys : List Item) → said p (xs ++ ys) ≡ said p xs + said p ys
+  unfolding countIf
+  said-append [] ys = omega arith
+  said-append (x ∷ xs) ys = omega (arith, said-append xs ys)
 
-pub hands-append : (xs ys : List Item) → handOns (xs ++ ys) ≡ handOns xs + handOns ys
-unfolding countIf
-hands-append [] ys = omega arith
-hands-append (x ∷ xs) ys = omega (arith, hands-append xs ys)
+  pub none-quiet : said p [] ≡ 0
+  unfolding countIf
+  none-quiet = refl
 
-pub none-quiet : handOns [] ≡ 0
-unfolding countIf
-none-quiet = refl
+  -- one entry that says something else
+  pub none-one : (it : Item) → p (it .reply) ≡ false → said p (it ∷ []) ≡ 0
+  unfolding countIf
+  none-one it e = let z : one (p (it .reply)) ≡ 0 = ap one e in omega arith
 
--- one entry that is no hand-on
-pub none-one : (it : Item) → isHandOnReply (it .reply) ≡ false → handOns (it ∷ []) ≡ 0
-unfolding countIf
-none-one it e = let z : one (isHandOnReply (it .reply)) ≡ 0 = ap one e in omega arith
+  pub none-then : (d : Done) (g : Farm → Done) → None p d → None p (g (d .farm)) → None p (andThen d g)
+  unfolding andThen
+  none-then d g a b = omega (arith, said-append (d .items) (g (d .farm) .items))
 
-pub none-then : (d : Done) (g : Farm → Done) → None d → None (g (d .farm)) → None (andThen d g)
-unfolding andThen
-none-then d g a b = omega (arith, hands-append (d .items) (g (d .farm) .items))
+  none-seats : (g : ℕ → Farm → Done) (f : Farm) → ((i : ℕ) (x : Farm) → None p (g i x)) → (n : ℕ) → None p (seatsTo g f n)
+  unfolding seatsTo upTo
+  none-seats g f k zero = none-quiet
+  none-seats g f k (suc n) = none-then (seatsTo g f n) (g n) (none-seats g f k n) (k n (seatsTo g f n .farm))
 
-pub none-seats : (g : ℕ → Farm → Done) (f : Farm) → ((i : ℕ) (x : Farm) → None (g i x)) → (n : ℕ) → None (seatsTo g f n)
-unfolding seatsTo upTo
-none-seats g f k zero = none-quiet
-none-seats g f k (suc n) = none-then (seatsTo g f n) (g n) (none-seats g f k n) (k n (seatsTo g f n .farm))
+  pub none-each : (g : ℕ → Farm → Done) (f : Farm) → ((i : ℕ) (x : Farm) → None p (g i x)) → None p (eachSeat g f)
+  unfolding eachSeat seatsTo
+  none-each g f k = none-seats g f k seatCount
 
-pub none-each : (g : ℕ → Farm → Done) (f : Farm) → ((i : ℕ) (x : Farm) → None (g i x)) → None (eachSeat g f)
-unfolding eachSeat seatsTo
-none-each g f k = none-seats g f k seatCount
+-- ---- a check that starts says 0007 and nothing else
 
-module _ (own : FarmSheet) where
-  pub none-closed : (seat : ℕ) (f : Farm) → None (closed own seat f)
-  unfolding closed countIf
-  none-closed seat f = refl
-
-  pub none-closings : (test : ℕ → Row → Bool) (f : Farm) → None (closedWhere own test f)
-  unfolding closedIf
-  none-closings test f =
-      none-each (closedIf own test) f
-      (λ i x. pick-case None (test i (rowAt (x .rows) i)) (closed own i x) (quietly x) (λ e. none-closed i x) (λ e. none-quiet))
-
-  pub none-answered : (seat address code : ℕ) (f : Farm) → None (answered own seat address code f)
-  unfolding answered
-  none-answered seat address code f =
-      pick-case None (eqb code accepted) _ _ (λ e. none-one (says own seat (Activation address (own .entity) code)) refl)
-      (λ e. none-then _ _ (none-one (says own seat (Activation address (own .entity) code)) refl) (none-closed seat f))
-
-  pub none-asking : (d : Decision) (f : Farm) → None (asking own d f)
+module _ (p : Reply → Bool) (alive : p AliveCheck ≡ false) (own : FarmSheet) where
+  none-asking : (d : Decision) (f : Farm) → None p (asking own d f)
   unfolding askedIf
-  none-asking (Now code) f = none-quiet
+  none-asking (Now code) f = none-quiet p
   none-asking (Ask check) f =
-      none-each (askedIf own check) f
-      (λ i x. pick-case None (asks check i (rowAt (x .rows) i)) _ _ (λ e. none-one (says own i AliveCheck) refl) (λ e. none-quiet))
+      none-each p (askedIf own check) f
+      (λ i x. pick-case (None p) (asks check i (rowAt (x .rows) i)) _ _ (λ e. none-one p (says own i AliveCheck) alive) (λ e. none-quiet p))
 
-  pub none-started : (f : Farm) → None (started own f)
+  pub none-started : (f : Farm) → None p (started own f)
   unfolding started
   none-started f = go (f .line)
     where
-      go : (line : List ℕ) → None (startedBy own line f)
-      go [] = none-quiet
+      go : (line : List ℕ) → None p (startedBy own line f)
+      go [] = none-quiet p
       go (head ∷ rest) = none-asking (socketRules own (f .rows) (wanted (rowAt (f .rows) head))) (cleared f)
 
-  pub none-advanced : (rest : List ℕ) (f : Farm) → None (advanced own rest f)
+  pub none-advanced : (rest : List ℕ) (f : Farm) → None p (advanced own rest f)
   unfolding advanced
   none-advanced rest f = none-started (withLine f rest)
 
-  pub none-serve : (head : ℕ) (rest : List ℕ) (f : Farm) (v : HeadVerdict) (next : Farm → Done) → ((g : Farm) → None (next g)) → None (serve own head rest f v next)
-  none-serve head rest f Pending next k = none-quiet
-  none-serve head rest f (Answer code) next k =
-      none-then _ next (none-then _ (advanced own rest) (none-answered head (wanted (rowAt (f .rows) head)) code f) (none-advanced rest _)) (k _)
-  none-serve head rest f (RunOut check) next k =
-      none-then _ next
-      (none-then _ (advanced own rest)
-      (none-then _ _ (none-closings (isSilent check (f .marks)) f) (none-answered head (wanted (rowAt (f .rows) head)) accepted _))
-      (none-advanced rest _))
-      (k _)
-
-  pub none-settled : (line : List ℕ) (f : Farm) → None (settleLine own line f)
-  unfolding settleLine
-  none-settled [] f = none-quiet
-  none-settled (head ∷ rest) f = none-serve head rest f (headVerdict own f head) (settleLine own rest) (λ g. none-settled rest g)
-
-  pub none-settle : (f : Farm) → None (settle own f)
-  none-settle f = none-settled (f .line) f
-
-  pub none-joined : (seat : ℕ) (q : Request) (f : Farm) → None (joined own seat q f)
+  pub none-joined : (seat : ℕ) (q : Request) (f : Farm) → None p (joined own seat q f)
   unfolding joined
-  none-joined seat q f = pick-case None (isEmpty (f .line)) _ _ (λ e. none-started (withLine (withRow f seat (waitingRow q)) (f .line ++ (seat ∷ [])))) (λ e. none-quiet)
+  none-joined seat q f =
+      pick-case (None p) (isEmpty (f .line)) _ _ (λ e. none-started (withLine (withRow f seat (waitingRow q)) (f .line ++ (seat ∷ [])))) (λ e. none-quiet p)
 
-  pub none-left : (seat : ℕ) (f : Farm) → None (left own seat f)
+  pub none-left : (seat : ℕ) (f : Farm) → None p (left own seat f)
   unfolding left
   none-left seat f = go (f .line)
     where
-      go : (line : List ℕ) → None (leftBy own seat line f)
-      go [] = none-quiet
-      go (head ∷ rest) = pick-case None (eqb seat head) _ _ (λ e. none-advanced rest f) (λ e. none-quiet)
+      go : (line : List ℕ) → None p (leftBy own seat line f)
+      go [] = none-quiet p
+      go (head ∷ rest) = pick-case (None p) (eqb seat head) _ _ (λ e. none-advanced rest f) (λ e. none-quiet p)
+
+-- ---- a closing says that it closes
+
+module _ (p : Reply → Bool) (close : p Close ≡ false) (own : FarmSheet) where
+  pub none-closed : (seat : ℕ) (f : Farm) → None p (closed own seat f)
+  unfolding closed
+  none-closed seat f = none-one p (says own seat Close) close
+
+  pub none-closings : (test : ℕ → Row → Bool) (f : Farm) → None p (closedWhere own test f)
+  unfolding closedIf
+  none-closings test f =
+      none-each p (closedIf own test) f
+      (λ i x. pick-case (None p) (test i (rowAt (x .rows) i)) (closed own i x) (quietly x) (λ e. none-closed i x) (λ e. none-quiet p))
+
+-- ---- settling says 0006, 0007 and closings
+
+module _ (p : Reply → Bool) (alive : p AliveCheck ≡ false) (close : p Close ≡ false) (activation : (a e c : ℕ) → p (Activation a e c) ≡ false) (own : FarmSheet) where
+  pub none-answered : (seat address code : ℕ) (f : Farm) → None p (answered own seat address code f)
+  unfolding answered
+  none-answered seat address code f =
+      pick-case (None p) (eqb code accepted) _ _ (λ e. none-one p (says own seat (Activation address (own .entity) code)) (activation address (own .entity) code))
+      (λ e.
+        none-then p _ _ (none-one p (says own seat (Activation address (own .entity) code)) (activation address (own .entity) code))
+        (none-closed p close own seat f))
+
+  none-serve : (head : ℕ) (rest : List ℕ) (f : Farm) (v : HeadVerdict) (next : Farm → Done) → ((g : Farm) → None p (next g)) → None p (serve own head rest f v next)
+  none-serve head rest f Pending next k = none-quiet p
+  none-serve head rest f (Answer code) next k =
+      none-then p _ next
+      (none-then p _ (advanced own rest) (none-answered head (wanted (rowAt (f .rows) head)) code f) (none-advanced p alive own rest _)) (k _)
+  none-serve head rest f (RunOut check) next k =
+      none-then p _ next
+      (none-then p _ (advanced own rest)
+      (none-then p _ _ (none-closings p close own (isSilent check (f .marks)) f) (none-answered head (wanted (rowAt (f .rows) head)) accepted _))
+      (none-advanced p alive own rest _))
+      (k _)
+
+  none-settled : (line : List ℕ) (f : Farm) → None p (settleLine own line f)
+  unfolding settleLine
+  none-settled [] f = none-quiet p
+  none-settled (head ∷ rest) f = none-serve head rest f (headVerdict own f head) (settleLine own rest) (λ g. none-settled rest g)
+
+  pub none-settle : (f : Farm) → None p (settle own f)
+  none-settle f = none-settled (f .line) f
+
+-- ---- hand-ons
+
+-- "3 hand on": the entry hands a payload on to a controller
+abbrev pub isHandOn : Reply → Bool
+isHandOn (Nack c) = false
+isHandOn Identity = false
+isHandOn (Activation a e c) = false
+isHandOn AliveCheck = false
+isHandOn (Status q o) = false
+isHandOn (PowerMode m) = false
+isHandOn (Message k t) = false
+isHandOn (Ack t s c) = false
+isHandOn (DiagnosticNack t s c) = false
+isHandOn Close = false
+isHandOn HandOn = true
+
+-- how many entries hand a payload on
+abbrev pub handOns : List Item → ℕ
+handOns items = said isHandOn items
+
+-- nothing is handed on
+abbrev pub NoHandOn : Done → Type 0
+NoHandOn d = None isHandOn d
+
+module _ (own : FarmSheet) where
+  pub settle-hands-none : (f : Farm) → NoHandOn (settle own f)
+  settle-hands-none f = none-settle isHandOn refl refl (λ a e c. refl) own f
+
+  pub answered-hands-none : (seat address code : ℕ) (f : Farm) → NoHandOn (answered own seat address code f)
+  answered-hands-none seat address code f = none-answered isHandOn refl refl (λ a e c. refl) own seat address code f
