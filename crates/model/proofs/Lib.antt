@@ -8,3 +8,4 @@ pub mod HandOnNone
 pub mod HandOnStream
 pub mod HandOn
 pub mod HandOnElse
+pub mod Shut
