@@ -150,15 +150,16 @@ pub record Reaches (own : FarmSheet) (r : Row) (m : List ℕ) : Type 0 where
   pub controller : own .target (endsIn (payloadOf m) .target) ≡ reachable
 
 -- the payload is handed on, once, from that row, directly behind its acknowledgement, and it is the message's payload byte for byte
-pub record Handed (own : FarmSheet) (seat : ℕ) (m : List ℕ) (g : Given) : Type 0 where
+pub record Handed (own : FarmSheet) (seat : ℕ) (m : List ℕ) (items : List Item) (long : List ℕ) : Type 0 where
   pub rest : List Item
-  pub entries : g .items ≡ says own seat (Ack (endsIn (payloadOf m) .target) (endsIn (payloadOf m) .source) 0x00) ∷ says own seat HandOn ∷ rest
+  pub entries : items ≡ says own seat (Ack (endsIn (payloadOf m) .target) (endsIn (payloadOf m) .source) 0x00) ∷ says own seat HandOn ∷ rest
   pub once : handOns rest ≡ 0
-  pub payload : g .long ≡ payloadOf m
+  pub payload : long ≡ payloadOf m
 
-pub record HandedOn (own : FarmSheet) (h : Held) (seat : ℕ) (input : List ℕ) (g : Given) : Type 0 where
-  pub always : Reaches own (rowAt (h .farm .rows) seat) (bytesAt h seat input) → Handed own seat (bytesAt h seat input) g
-  pub only : 1 ≤ handOns (g .items) → Reaches own (rowAt (h .farm .rows) seat) (bytesAt h seat input)
+-- and that is so exactly where the message reaches its controller
+pub record HandedOn (own : FarmSheet) (h : Held) (seat : ℕ) (input : List ℕ) (items : List Item) (long : List ℕ) : Type 0 where
+  pub always : Reaches own (rowAt (h .farm .rows) seat) (bytesAt h seat input) → Handed own seat (bytesAt h seat input) items long
+  pub only : 1 ≤ handOns items → Reaches own (rowAt (h .farm .rows) seat) (bytesAt h seat input)
 
 -- the same of what a call takes and does
 module _ (own : FarmSheet) (seat : ℕ) (f : Farm) (t : Taken) where
@@ -206,7 +207,7 @@ module _ (own : FarmSheet) (seat : ℕ) (f : Farm) (t : Taken) where
 -- controller is known, reachable and of that farm. Then it is handed on once, from that row, directly behind its 8002, and what is handed on
 -- is the message's payload: the bytes behind its header. (A row's room is 2,048 bytes and its header eight.)
 pub handed-on : (own : FarmSheet) (h : Held) (seat : ℕ) (input : List ℕ) (g : Given) → Good own (h .farm) → mostPayload ≤ length (getD (h .rooms) seat [])
-    → length (rowAt (h .farm .rows) seat .head) ≡ headerSize → move own h (bytes seat input) ≡ gave g → HandedOn own h seat input g
+    → length (rowAt (h .farm .rows) seat .head) ≡ headerSize → move own h (bytes seat input) ≡ gave g → HandedOn own h seat input (g .items) (g .long)
 unfolding move
 handed-on own h seat input g good room head e =
     record {

@@ -8,4 +8,5 @@ pub mod HandOnNone
 pub mod HandOnStream
 pub mod HandOn
 pub mod HandOnElse
+pub mod HandOnTable
 pub mod Shut
