@@ -9,7 +9,7 @@ use Rattle.model.specs.Row.{clockOf, rowOf}
 use Rattle.model.specs.Farm.{newFarm, withRow}
 use Rattle.model.specs.Table.{Table, bytesFrom, connectTo, tick}
 use Rattle.days.specs.Day.{Day, plain}
-use Rattle.days.specs.Rig.{oneFarm, twoFarms, requestFor, alive, diagnostic, message, gives, sheetsFrom, taken, ticks, nothing}
+use Rattle.days.specs.Rig.{oneFarm, twoFarms, requestFor, alive, diagnostic, message, gives, sheetsFrom, taken, ticks, nothing, codeIn}
 use Rattle.days.specs.Histories.{one, two, oneActive, aActiveBAsked, threeWantOne, oneWaits, allAsked, sixWantOne}
 use Rattle.days.specs.Entries.{closing, handing, answer, check, nack, ack, refusal, sheet}
 
@@ -70,3 +70,12 @@ furtherDays =
     -- A50: closings lowest first
     ∷ plain (gives (oneFarm 2) (allAsked ++ ticks 49) (tick ∷ [])) (sheet (closing 0 ∷ closing 1 ∷ answer 2 0x0E02 0x10 ∷ []))
     ∷ []
+
+-- ---- "one that decides on joining and only acts out the wait, because the code must follow later 0008s"
+
+-- B's code when A answers, and when A is silent for 50 ticks: both after the same calls, the last of which was B's joining
+unfoldable pub codeIfAnswered : ℕ
+codeIfAnswered = codeIn 0 (gives (oneFarm 1) aActiveBAsked (bytesFrom 0 (alive 0x0E00) ∷ []))
+
+unfoldable pub codeIfSilent : ℕ
+codeIfSilent = codeIn 1 (gives (oneFarm 1) (aActiveBAsked ++ ticks 49) (tick ∷ []))

@@ -2,7 +2,7 @@
 -- Assumes nothing: these are definitions.
 use Prim.Native.Nat.{ℕ, zero, suc, _+_, _*_}
 use mathlib.Core.List.{List, [], _∷_, _++_, map}
-use lib.ListN.{length, replicate}
+use lib.ListN.{length, getD, replicate}
 use Rattle.octets.specs.Numbers.{u16At, be16, be32}
 use Rattle.octets.specs.Parts.{part, joined}
 use Rattle.outsheet.specs.Sheet.{sheetOf}
@@ -93,9 +93,13 @@ ticks n = replicate n tick
 abbrev pub nothing : List ℕ
 nothing = 0x00 ∷ 0x00 ∷ 0x00 ∷ 0x04 ∷ []
 
--- the bytes of the first entry: "a u16 offset per entry, then entries: row, kind, u16 length, bytes"
-abbrev pub firstEntry : List ℕ → List ℕ
-firstEntry sheet = part sheet (u16At sheet 4 + 4) (u16At sheet (u16At sheet 4 + 2))
+-- the bytes of an entry, the first being 0: "a u16 offset per entry, then entries: row, kind, u16 length, bytes"
+abbrev pub entryIn : ℕ → List ℕ → List ℕ
+entryIn i sheet = part sheet (u16At sheet (4 + 2 * i) + 4) (u16At sheet (u16At sheet (4 + 2 * i) + 2))
+
+-- the code of an entry that is a 0006: "address, entity address, code", behind eight bytes of header
+abbrev pub codeIn : ℕ → List ℕ → ℕ
+codeIn i sheet = getD (entryIn i sheet) 12 0
 
 -- the bytes that a call takes
 unfoldable pub taken : List ℕ → List Call → Call → ℕ

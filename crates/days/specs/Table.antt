@@ -6,7 +6,7 @@ use Rattle.octets.specs.Parts.{joined}
 use Rattle.model.specs.Table.{bytesFrom, tick}
 use Rattle.days.specs.Day.{Day, plain}
 use Rattle.days.specs.Headers.{passes, nackAndClose, nackAndSkip, judged, judgedOf}
-use Rattle.days.specs.Rig.{oneFarm, twoFarms, requestFor, alive, diagnostic, gives, ticks, nothing, firstEntry}
+use Rattle.days.specs.Rig.{oneFarm, twoFarms, requestFor, alive, diagnostic, gives, ticks, nothing, entryIn}
 use Rattle.days.specs.Histories.{one, four, oneActive, aActiveBAsked}
 
 unfoldable pub days : List Day
@@ -16,7 +16,7 @@ days =
     (0x00 ∷ 0x01 ∷ 0x00 ∷ 0x1B ∷ 0x00 ∷ 0x06 ∷ 0x03 ∷ 0x01 ∷ 0x00 ∷ 0x11
     ∷ 0x03 ∷ 0xFC ∷ 0x00 ∷ 0x06 ∷ 0x00 ∷ 0x00 ∷ 0x00 ∷ 0x09 ∷ 0x0E ∷ 0x00 ∷ 0x10 ∷ 0x00 ∷ 0x10 ∷ 0x00 ∷ 0x00 ∷ 0x00 ∷ 0x00 ∷ [])
     -- "0E00 to 1010 accepted: ack `03 FC 80 02 00 00 00 05 10 10 0E 00 00`."
-    ∷ plain (firstEntry (gives (oneFarm 1) oneActive (bytesFrom 0 (diagnostic 0x0E00 0x1010 (0x3E ∷ [])) ∷ [])))
+    ∷ plain (entryIn 0 (gives (oneFarm 1) oneActive (bytesFrom 0 (diagnostic 0x0E00 0x1010 (0x3E ∷ [])) ∷ [])))
     (0x03 ∷ 0xFC ∷ 0x80 ∷ 0x02 ∷ 0x00 ∷ 0x00 ∷ 0x00 ∷ 0x05 ∷ 0x10 ∷ 0x10 ∷ 0x0E ∷ 0x00 ∷ 0x00 ∷ [])
     -- "`03 FD` pattern: NACK 00, close."
     ∷ plain (judged (0x03 ∷ 0xFD ∷ 0x80 ∷ 0x01 ∷ 0 ∷ 0 ∷ 0 ∷ 5 ∷ [])) (nackAndClose 0)
