@@ -34,10 +34,11 @@ use Rattle.model.specs.Line.{decide, joined, answered, marked, settle}
 use Rattle.model.specs.Bytes.{decidedBy, requested, toTarget, diagnosed, messaged, faulted, eventDone, heardRow, heard, takenBy, payloadBy, bytesDone}
 use Rattle.model.specs.Move.{Own, bytes, Held, Given, Move, refused, gave, tookBytes, bytesBy, move}
 use Rattle.model.specs.Rule.{Good}
+use Rattle.model.specs.HandsOn.{inHandBytes, Whole, payloadOf, isHandOn, handOns, bytesAt, Reaches, Handed, HandedOn}
 use Rattle.model.proofs.Cases.{pick-case, split}
 use Rattle.model.proofs.Rows.{row-set}
-use Rattle.model.proofs.HandOnNone.{isHandOn, handOns, NoHandOn, said-append, none-quiet, none-one, none-then, none-closed, none-joined, settle-hands-none, answered-hands-none}
-use Rattle.model.proofs.HandOnStream.{inHandBytes, Whole, payloadOf, Ends, stream-ends}
+use Rattle.model.proofs.HandOnNone.{NoHandOn, said-append, none-quiet, none-one, none-then, none-closed, none-joined, settle-hands-none, answered-hands-none}
+use Rattle.model.proofs.HandOnStream.{Ends, stream-ends}
 
 -- ---- what a finished message says
 
@@ -76,10 +77,13 @@ module _ (own : FarmSheet) (seat : ℕ) where
       pick-case (λ (d : Done). 1 ≤ handOns (d .items) → Welcome e (rowAt (f .rows) seat)) (activeAs (e .source) (rowAt (f .rows) seat)) _ _
       (λ t h. (t, target-only e f (own .target (e .target)) h))
       (λ t h.
-        absurd
-        (omega
-        (arith, h, none-then isHandOn (does f (says own seat (DiagnosticNack (e .target) (e .source) 0x02) ∷ [])) (closed own seat)
-        (none-one isHandOn (says own seat (DiagnosticNack (e .target) (e .source) 0x02)) refl) (none-closed isHandOn refl own seat f))))
+      absurd
+      (omega (
+        arith,
+        h,
+        none-then isHandOn (does f (says own seat (DiagnosticNack (e .target) (e .source) 0x02) ∷ [])) (closed own seat)
+            (none-one isHandOn (says own seat (DiagnosticNack (e .target) (e .source) 0x02)) refl) (none-closed isHandOn refl own seat f),
+      )))
 
   diagnosed-says : (e : Parties) (f : Farm) → Welcome e (rowAt (f .rows) seat) → diagnosed own seat e f ≡ does f (acked e)
   unfolding diagnosed
@@ -95,11 +99,11 @@ module _ (own : FarmSheet) (seat : ℕ) where
   event-only (finished kind size) room f =
       pick-case P (eqb kind 0x0005) _ _ (λ t h. absurd (omega (arith, none-requested (requestIn (take size room)) f)))
       (λ t.
-        pick-case P (eqb kind 0x0008) _ _ (λ t h. absurd (omega (arith, (none-quiet isHandOn))))
-        (λ t.
-          pick-case P (eqb kind 0x8001) _ _
-          (λ t h. (size, ap (λ k. finished k size) (eqb-true kind 0x8001 t), diagnosed-only (endsIn (take size room)) f h))
-          (λ t h. absurd (omega (arith, (none-quiet isHandOn))))))
+      pick-case P (eqb kind 0x0008) _ _ (λ t h. absurd (omega (arith, (none-quiet isHandOn))))
+      (λ t.
+      pick-case P (eqb kind 0x8001) _ _
+      (λ t h. (size, ap (λ k. finished k size) (eqb-true kind 0x8001 t), diagnosed-only (endsIn (take size room)) f h))
+      (λ t h. absurd (omega (arith, (none-quiet isHandOn))))))
     where
       P : Done → Type 0
       P d = 1 ≤ handOns (d .items) → (n : ℕ) × (finished kind size ≡ finished 0x8001 n) × Welcome (endsIn (take n room)) (rowAt (f .rows) seat)
@@ -125,10 +129,6 @@ heard-row a seat t f =
 
 -- ---- the call
 
--- the bytes that the row then has of its message: those in hand, and the input
-abbrev pub bytesAt : Held → ℕ → List ℕ → List ℕ
-bytesAt h seat input = inHandBytes (rowAt (h .farm .rows) seat .place) (rowAt (h .farm .rows) seat .head) (getD (h .rooms) seat []) ++ input
-
 same-size : {kind a b : ℕ} → finished kind a ≡ finished kind b → a ≡ b
 same-size e = cc
 
@@ -142,24 +142,6 @@ bytes-gave own h seat input g Free e = let z : _≡_ {A = ℕ} 0 1 = cc in absur
 bytes-gave own h seat input g (Fresh age) e = e
 bytes-gave own h seat input g (Waiting q) e = let z : _≡_ {A = ℕ} 0 1 = cc in absurd (omega arith)
 bytes-gave own h seat input g (Active a idle) e = e
-
--- the sender is active on the row, and the controller is known, reachable and of the farm; the message is whole and its header passes
-pub record Reaches (own : FarmSheet) (r : Row) (m : List ℕ) : Type 0 where
-  pub message : Whole m
-  pub sender : activeAs (endsIn (payloadOf m) .source) r ≡ true
-  pub controller : own .target (endsIn (payloadOf m) .target) ≡ reachable
-
--- the payload is handed on, once, from that row, directly behind its acknowledgement, and it is the message's payload byte for byte
-pub record Handed (own : FarmSheet) (seat : ℕ) (m : List ℕ) (items : List Item) (long : List ℕ) : Type 0 where
-  pub rest : List Item
-  pub entries : items ≡ says own seat (Ack (endsIn (payloadOf m) .target) (endsIn (payloadOf m) .source) 0x00) ∷ says own seat HandOn ∷ rest
-  pub once : handOns rest ≡ 0
-  pub payload : long ≡ payloadOf m
-
--- and that is so exactly where the message reaches its controller
-pub record HandedOn (own : FarmSheet) (h : Held) (seat : ℕ) (input : List ℕ) (items : List Item) (long : List ℕ) : Type 0 where
-  pub always : Reaches own (rowAt (h .farm .rows) seat) (bytesAt h seat input) → Handed own seat (bytesAt h seat input) items long
-  pub only : 1 ≤ handOns items → Reaches own (rowAt (h .farm .rows) seat) (bytesAt h seat input)
 
 -- the same of what a call takes and does
 module _ (own : FarmSheet) (seat : ℕ) (f : Farm) (t : Taken) where
@@ -180,13 +162,14 @@ module _ (own : FarmSheet) (seat : ℕ) (f : Farm) (t : Taken) where
       where
         d : Done
         d = eventDone own seat (t .event) (t .stream .room) (heard seat t f)
+
         go : (size : ℕ) × (t .event ≡ finished 0x8001 size) × Welcome own seat (endsIn (take size (t .stream .room))) (rowAt (heard seat t f .rows) seat)
             → Reaches own (rowAt (f .rows) seat) m
         go (size, q, w) =
             let whole : Whole m = ends .only size q in
             let n : size ≡ headerAt m 0 .length = same-size (sym q ∙ ends .finishes whole) in
             let v : Welcome own seat (endsIn (payloadOf m)) (rowAt (f .rows) seat) =
-              welcome-was (take size (t .stream .room)) (payloadOf m) (ap (λ k. take k (t .stream .room)) n ∙ ends .stores whole) w in
+            welcome-was (take size (t .stream .room)) (payloadOf m) (ap (λ k. take k (t .stream .room)) n ∙ ends .stores whole) w in
             record { message = whole; sender = v .0; controller = v .1 }
 
     bytes-says : Reaches own (rowAt (f .rows) seat) m
@@ -194,9 +177,9 @@ module _ (own : FarmSheet) (seat : ℕ) (f : Farm) (t : Taken) where
     unfolding bytesDone andThen
     bytes-says r =
         let e : eventDone own seat (t .event) (t .stream .room) (heard seat t f) ≡
-          does (heard seat t f) (acked own seat (endsIn (take (headerAt m 0 .length) (t .stream .room)))) =
-          event-says own seat (t .event) (headerAt m 0 .length) (t .stream .room) (heard seat t f) (ends .finishes (r .message))
-          (welcome-is (take (headerAt m 0 .length) (t .stream .room)) (payloadOf m) (ends .stores (r .message)) (r .sender, r .controller)) in
+        does (heard seat t f) (acked own seat (endsIn (take (headerAt m 0 .length) (t .stream .room)))) =
+        event-says own seat (t .event) (headerAt m 0 .length) (t .stream .room) (heard seat t f) (ends .finishes (r .message))
+        (welcome-is (take (headerAt m 0 .length) (t .stream .room)) (payloadOf m) (ends .stores (r .message)) (r .sender, r .controller)) in
         (settle own (heard seat t f) .items, rw (e, ends .stores (r .message)) refl, settle-hands-none own (heard seat t f))
 
     bytes-long : Whole m → payloadBy (t .event) (t .stream .room) ≡ payloadOf m
@@ -212,18 +195,22 @@ unfolding move
 handed-on own h seat input g good room head e =
     record {
       always = λ r.
-        let s = bytes-says own seat (h .farm) t (bytesAt h seat input) ends r in
-        record { rest = s .0; entries = sym items ∙ s .1; once = s .2; payload = sym long ∙ bytes-long own seat (h .farm) t (bytesAt h seat input) ends (r .message) };
+          let s = bytes-says own seat (h .farm) t (bytesAt h seat input) ends r in
+          record { rest = s .0; entries = sym items ∙ s .1; once = s .2; payload = sym long ∙ bytes-long own seat (h .farm) t (bytesAt h seat input) ends (r .message) };
       only = λ n. bytes-only own seat (h .farm) t (bytesAt h seat input) ends (omega (arith, ap handOns items, n));
     }
   where
     t : Taken
     t = takenBy seat (getD (h .rooms) seat []) input (h .farm)
+
     took : tookBytes own h seat t ≡ gave g
     took = bytes-gave own h seat input g (rowAt (h .farm .rows) seat .state) e
+
     items : bytesDone own seat t (h .farm) .items ≡ g .items
     items = ap (λ (x : Given). x .items) (gave-same took)
+
     long : payloadBy (t .event) (t .stream .room) ≡ g .long
     long = ap (λ (x : Given). x .long) (gave-same took)
+
     ends : Ends (bytesAt h seat input) (t .event) (t .stream)
     ends = stream-ends (rowAt (h .farm .rows) seat .place) (rowAt (h .farm .rows) seat .head) (getD (h .rooms) seat []) input head room (good .possible seat)

@@ -30,8 +30,9 @@ use Rattle.model.specs.Row.{rowAt, isFree, isOpen, activeAs, atLimit}
 use Rattle.model.specs.Farm.{Farm, Done, quietly, andThen, says, closed, closedWhere, withLine}
 use Rattle.model.specs.Line.{cleared, left, settle}
 use Rattle.model.specs.Move.{Own, connect, bytes, peerClosed, linkLost, datagram, controller, Held, Given, Move, refused, gave, moves, connectedAt, connects, peerGone, linkGone, clockRun, aged, ticked, openRows, answers, datagramMove, mostUser, isTarget, toTester, controllerMove, move, tickMove}
+use Rattle.model.specs.HandsOn.{isHandOn, handOns}
 use Rattle.model.proofs.Cases.{pick-case, unless-case}
-use Rattle.model.proofs.HandOnNone.{isHandOn, handOns, NoHandOn, none-quiet, none-one, none-then, none-closed, none-closings, none-left, settle-hands-none}
+use Rattle.model.proofs.HandOnNone.{NoHandOn, none-quiet, none-one, none-then, none-closed, none-closings, none-left, settle-hands-none}
 
 -- a call that takes bytes
 abbrev pub isBytes : Own → Bool

@@ -16,13 +16,14 @@ use Rattle.kinds.specs.declared.HeadVerdict.{HeadVerdict}
 use Rattle.kinds.specs.declared.HeadVerdict.the-variants.{Pending, Answer, RunOut}
 use Rattle.kinds.specs.declared.Item.{Item}
 use Rattle.kinds.specs.declared.Reply.{Reply}
-use Rattle.kinds.specs.declared.Reply.the-variants.{Nack, Identity, Activation, AliveCheck, Status, PowerMode, Message, Ack, DiagnosticNack, Close, HandOn}
+use Rattle.kinds.specs.declared.Reply.the-variants.{Activation, AliveCheck, Close}
 use Rattle.kinds.specs.declared.Request.{Request}
 use Rattle.kinds.specs.declared.Row.{Row}
 use Rattle.model.specs.FarmSheet.{FarmSheet}
 use Rattle.model.specs.Row.{rowAt, wanted, waitingRow}
 use Rattle.model.specs.Farm.{Farm, Done, does, quietly, andThen, eachSeat, seatCount, withRow, withLine, says, closed, closedIf, closedWhere}
 use Rattle.model.specs.Line.{accepted, socketRules, asks, askedIf, asking, cleared, startedBy, started, advanced, answered, isSilent, headVerdict, serve, settleLine, settle, isEmpty, joined, without, leftBy, left}
+use Rattle.model.specs.HandsOn.{isHandOn}
 use Rattle.model.proofs.Cases.{pick-case}
 use Rattle.model.proofs.Seats.{seatsTo}
 
@@ -118,8 +119,8 @@ module _ (p : Reply → Bool) (alive : p AliveCheck ≡ false) (close : p Close 
   none-answered seat address code f =
       pick-case (None p) (eqb code accepted) _ _ (λ e. none-one p (says own seat (Activation address (own .entity) code)) (activation address (own .entity) code))
       (λ e.
-        none-then p _ _ (none-one p (says own seat (Activation address (own .entity) code)) (activation address (own .entity) code))
-        (none-closed p close own seat f))
+      none-then p _ _ (none-one p (says own seat (Activation address (own .entity) code)) (activation address (own .entity) code))
+      (none-closed p close own seat f))
 
   none-serve : (head : ℕ) (rest : List ℕ) (f : Farm) (v : HeadVerdict) (next : Farm → Done) → ((g : Farm) → None p (next g)) → None p (serve own head rest f v next)
   none-serve head rest f Pending next k = none-quiet p
@@ -142,24 +143,6 @@ module _ (p : Reply → Bool) (alive : p AliveCheck ≡ false) (close : p Close 
   none-settle f = none-settled (f .line) f
 
 -- ---- hand-ons
-
--- "3 hand on": the entry hands a payload on to a controller
-abbrev pub isHandOn : Reply → Bool
-isHandOn (Nack c) = false
-isHandOn Identity = false
-isHandOn (Activation a e c) = false
-isHandOn AliveCheck = false
-isHandOn (Status q o) = false
-isHandOn (PowerMode m) = false
-isHandOn (Message k t) = false
-isHandOn (Ack t s c) = false
-isHandOn (DiagnosticNack t s c) = false
-isHandOn Close = false
-isHandOn HandOn = true
-
--- how many entries hand a payload on
-abbrev pub handOns : List Item → ℕ
-handOns items = said isHandOn items
 
 -- nothing is handed on
 abbrev pub NoHandOn : Done → Type 0

@@ -13,7 +13,6 @@ use lib.Seq.{take-all, take-suc-set, length-take-le, take-at, drop-at}
 use borrow.Author.Tests.{ltb-true, ltb-false, leb-true, leb-false, lt-ltb, le-ltb}
 use Rattle.octets.specs.Choice.{pick, both}
 use Rattle.octets.specs.Search.{some}
-use Rattle.octets.specs.Parts.{part}
 use Rattle.kinds.specs.declared.Fault.{Fault}
 use Rattle.kinds.specs.declared.Fault.the-variants.{UnknownType, TooLong}
 use Rattle.kinds.specs.declared.Verdict.{Verdict}
@@ -26,25 +25,8 @@ use Rattle.wire.specs.Types.{types, tcp, lengthFits}
 use Rattle.wire.specs.Header.{headerSize, headerAt, mostPayload, verdictOf}
 use Rattle.model.specs.Stream.{Stream, streamOf, Event, inputEnded, wrong, finished, skipped, storedIn, isStored, judged, feed, Taken, takesBy, takes}
 use Rattle.model.specs.Rule.{PossibleAt}
+use Rattle.model.specs.HandsOn.{inHandBytes, Whole, payloadOf}
 use Rattle.model.proofs.Cases.{split}
-
--- ---- the words of the claim
-
--- the bytes of its message that a row has in hand; of one that is skipped only the header is kept
-abbrev pub inHandBytes : Place → List ℕ → List ℕ → List ℕ
-inHandBytes (Header n) head room = take n head
-inHandBytes (Reading n) head room = head ++ take n room
-inHandBytes (Skipping n) head room = head
-
--- "A whole diagnostic message that the header rules pass" stands at the front of these bytes
-pub record Whole (m : List ℕ) : Type 0 where
-  pub whole : headerSize + headerAt m 0 .length ≤ length m
-  pub passes : verdictOf (headerAt m 0) ≡ Passes
-  pub diagnostic : headerAt m 0 .kind ≡ 0x8001
-
--- its payload: the bytes behind the header, so many as it announces
-abbrev pub payloadOf : List ℕ → List ℕ
-payloadOf m = part m headerSize (headerAt m 0 .length)
 
 -- the call finishes a diagnostic message exactly where one is whole, and then the payload stands at the front of the row's room
 pub record Ends (m : List ℕ) (e : Event) (s : Stream) : Type 0 where
@@ -93,8 +75,8 @@ module _ (head : List ℕ) where
   read-event n room (byte ∷ bytes) h =
       split (ltb (n + 1) (headerAt head 0 .length))
       (λ e.
-        let q : n + suc (length bytes) ≡ n + 1 + length bytes = omega arith in
-        rw (e, q) (read-event (n + 1) (storedIn (headerAt head 0 .kind) room n byte) bytes (ltb-true _ _ e)))
+      let q : n + suc (length bytes) ≡ n + 1 + length bytes = omega arith in
+      rw (e, q) (read-event (n + 1) (storedIn (headerAt head 0 .kind) room n byte) bytes (ltb-true _ _ e)))
       (λ e. rw (e, le-ltb (n + suc (length bytes)) (headerAt head 0 .length) (omega (arith, ltb-false))) refl)
 
   -- where it ends with the message, the room holds the part that was in hand and the input's bytes behind it
@@ -107,9 +89,9 @@ module _ (head : List ℕ) where
   read-stores n room (byte ∷ bytes) k h r w =
       split (ltb (n + 1) (headerAt head 0 .length))
       (λ e.
-        rw (e, k)
-        (read-stores (n + 1) (set room n byte) bytes k (ltb-true _ _ e) (omega (arith, length-set room n byte)) (omega arith)
-        ∙ ap (take (headerAt head 0 .length)) (moved-on room n byte bytes (omega arith))))
+      rw (e, k)
+      (read-stores (n + 1) (set room n byte) bytes k (ltb-true _ _ e) (omega (arith, length-set room n byte)) (omega arith)
+      ∙ ap (take (headerAt head 0 .length)) (moved-on room n byte bytes (omega arith))))
       (λ e. rw (e, k) (last-stored room n (headerAt head 0 .length) byte bytes (omega arith) (omega (arith, ltb-false))))
 
 -- a payload that is skipped finishes no message
@@ -142,22 +124,30 @@ header-long P n head room [] h l w k = absurd (omega arith)
 header-long P n head room (byte ∷ bytes) h l w k =
     split (ltb (n + 1) headerSize)
     (λ e.
-      rw e
-      (header-long P (n + 1) (set head n byte) room bytes (ltb-true _ _ e) (omega (arith, length-set head n byte)) (omega arith)
-      (λ hd rest q s. k hd rest q (s ∙ moved-on head n byte bytes (omega arith)))))
+    rw e
+    (header-long P (n + 1) (set head n byte) room bytes (ltb-true _ _ e) (omega (arith, length-set head n byte)) (omega arith)
+    (λ hd rest q s. k hd rest q (s ∙ moved-on head n byte bytes (omega arith)))))
     (λ e.
-      rw e
-      (k (set head n byte) bytes (omega (arith, length-set head n byte))
-      (ap (_++ bytes) (sym (take-all (n + 1) (set head n byte) (omega (arith, length-set head n byte, ltb-false)))) ∙
-      moved-on head n byte bytes (omega arith))))
+    rw e
+    (k (set head n byte) bytes (omega (arith, length-set head n byte))
+    (ap (_++ bytes) (sym (take-all (n + 1) (set head n byte) (omega (arith, length-set head n byte, ltb-false)))) ∙
+    moved-on head n byte bytes (omega arith))))
 
 -- ---- the message by its bytes
 
 -- a header reads the same with more bytes behind it
 header-front : (hd rest : List ℕ) → length hd ≡ headerSize → headerAt (hd ++ rest) 0 ≡ headerAt hd 0
 header-front hd rest l =
-    rw (byte 0 (omega arith), byte 1 (omega arith), byte 2 (omega arith), byte 3 (omega arith), byte 4 (omega arith), byte 5 (omega arith),
-      byte 6 (omega arith), byte 7 (omega arith))
+    rw (
+      byte 0 (omega arith),
+      byte 1 (omega arith),
+      byte 2 (omega arith),
+      byte 3 (omega arith),
+      byte 4 (omega arith),
+      byte 5 (omega arith),
+      byte 6 (omega arith),
+      byte 7 (omega arith),
+    )
     refl
   where
     byte : (k : ℕ) → k < headerSize → getD (hd ++ rest) k 0 ≡ getD hd k 0
@@ -173,7 +163,7 @@ no-message m e s n k = record { finishes = λ w. absurd (n w); stores = λ w. ab
 
 -- while a payload is read: m is the header, the part in hand, and the input
 module _ (m hd room input : List ℕ) (n : ℕ) (front : headerAt m 0 ≡ headerAt hd 0) (long : length m ≡ headerSize + (n + length input))
-  (behind : drop headerSize m ≡ take n room ++ input) (p : verdictOf (headerAt hd 0) ≡ Passes) (h : n < headerAt hd 0 .length) (r : mostPayload ≤ length room) where
+    (behind : drop headerSize m ≡ take n room ++ input) (p : verdictOf (headerAt hd 0) ≡ Passes) (h : n < headerAt hd 0 .length) (r : mostPayload ≤ length room) where
   read-finishes : Whole m → takes (streamOf (Reading n) hd room) input .event ≡ finished 0x8001 (headerAt m 0 .length)
   read-finishes w =
       let size : headerAt m 0 .length ≡ headerAt hd 0 .length = ap (λ (x : Head). x .length) front in
@@ -193,17 +183,17 @@ module _ (m hd room input : List ℕ) (n : ℕ) (front : headerAt m 0 ≡ header
       let same : headerAt m 0 .length ≡ headerAt hd 0 .length = ap (λ (x : Head). x .length) front in
       split (ltb (n + length input) (headerAt hd 0 .length))
       (λ t.
-        let ev : takes (streamOf (Reading n) hd room) input .event ≡ inputEnded = read-event hd n room input h ∙ rw t refl in
-        let z : _≡_ {A = ℕ} 0 1 = cc in
-        absurd (omega arith))
+      let ev : takes (streamOf (Reading n) hd room) input .event ≡ inputEnded = read-event hd n room input h ∙ rw t refl in
+      let z : _≡_ {A = ℕ} 0 1 = cc in
+      absurd (omega arith))
       (λ t.
-        let ev : takes (streamOf (Reading n) hd room) input .event ≡ finished (headerAt hd 0 .kind) (headerAt hd 0 .length) = read-event hd n room input h ∙ rw t refl in
-        let kind : headerAt hd 0 .kind ≡ 0x8001 = cc in
-        record {
-          whole = omega (arith, ltb-false);
-          passes = ap verdictOf front ∙ p;
-          diagnostic = ap (λ (x : Head). x .kind) front ∙ kind;
-        })
+      let ev : takes (streamOf (Reading n) hd room) input .event ≡ finished (headerAt hd 0 .kind) (headerAt hd 0 .length) = read-event hd n room input h ∙ rw t refl in
+      let kind : headerAt hd 0 .kind ≡ 0x8001 = cc in
+      record {
+        whole = omega (arith, ltb-false);
+        passes = ap verdictOf front ∙ p;
+        diagnostic = ap (λ (x : Head). x .kind) front ∙ kind;
+      })
 
   read-ends : Ends m (takes (streamOf (Reading n) hd room) input .event) (takes (streamOf (Reading n) hd room) input .stream)
   read-ends = record { finishes = read-finishes; stores = read-room; only = read-only }
@@ -217,8 +207,8 @@ after-ends : (hd room rest : List ℕ) (v : Verdict) → length hd ≡ headerSiz
     → Ends (hd ++ rest) (takesBy (judged v hd room) (λ t. takes t rest) .event) (takesBy (judged v hd room) (λ t. takes t rest) .stream)
 after-ends hd room rest Passes l r e =
     let both : Ends (hd ++ rest) (takes (streamOf (Reading 0) hd room) rest .event) (takes (streamOf (Reading 0) hd room) rest .stream) =
-      read-ends (hd ++ rest) hd room rest 0 (header-front hd rest l) (omega (arith, length-append hd rest)) (header-behind hd rest l) e
-      (passes-some (headerAt hd 0) e) r in
+    read-ends (hd ++ rest) hd room rest 0 (header-front hd rest l) (omega (arith, length-append hd rest)) (header-behind hd rest l) e
+    (passes-some (headerAt hd 0) e) r in
     both
 after-ends hd room rest (Wrong fault) l r e =
     no-message (hd ++ rest) _ _ (wrong-not (hd ++ rest) fault (ap verdictOf (header-front hd rest l) ∙ e))
@@ -230,13 +220,13 @@ pub stream-ends : (place : Place) (head room input : List ℕ) → length head �
 stream-ends (Header n) head room input l r h =
     split (leb headerSize (n + length input))
     (λ t.
-      header-long (Ends (take n head ++ input)) n head room input h l (leb-true _ _ t)
-      (λ hd rest q s. rw (sym s) (after-ends hd room rest (verdictOf (headerAt hd 0)) q r refl)))
+    header-long (Ends (take n head ++ input)) n head room input h l (leb-true _ _ t)
+    (λ hd rest q s. rw (sym s) (after-ends hd room rest (verdictOf (headerAt hd 0)) q r refl)))
     (λ t.
-      let ev : takes (streamOf (Header n) head room) input .event ≡ inputEnded = header-short n head room input (leb-false _ _ t) in
-      no-message (take n head ++ input) _ _
-      (λ w. omega (arith, w .whole, length-append (take n head) input, length-take-le n head (omega arith), leb-false))
-      (λ kind size q. let z : _≡_ {A = ℕ} 0 1 = cc in omega arith))
+    let ev : takes (streamOf (Header n) head room) input .event ≡ inputEnded = header-short n head room input (leb-false _ _ t) in
+    no-message (take n head ++ input) _ _
+    (λ w. omega (arith, w .whole, length-append (take n head) input, length-take-le n head (omega arith), leb-false))
+    (λ kind size q. let z : _≡_ {A = ℕ} 0 1 = cc in omega arith))
 stream-ends (Reading n) head room input l r h =
     rw append-assoc
     (read-ends (head ++ (take n room ++ input)) head room input n (header-front head (take n room ++ input) l)

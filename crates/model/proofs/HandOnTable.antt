@@ -21,9 +21,10 @@ use Rattle.model.specs.Row.{rowAt}
 use Rattle.model.specs.Move.{Own, bytes, connect, peerClosed, linkLost, datagram, controller, Held, Given, Move, refused, gave, move, tickMove}
 use Rattle.model.specs.Table.{Table, slot, goodTable, Call, connectTo, bytesFrom, peerClosedOn, linkLostOf, tick, datagramTo, messageFrom, Lent, leastOutput, assemblingSize, Whose, nobodys, farms, everyones, ofFarm, ofOwner, whose, Did, Outcome, refuses, did, movedTo, itemsBy, slotTick, tickItems, called, step, itemsOf}
 use Rattle.model.specs.Rule.{Good}
+use Rattle.model.specs.HandsOn.{isHandOn, handOns, HandedOn}
 use Rattle.model.proofs.Cases.{pick-case, unless-case}
-use Rattle.model.proofs.HandOnNone.{isHandOn, handOns, said-append, none-quiet}
-use Rattle.model.proofs.HandOn.{HandedOn, handed-on}
+use Rattle.model.proofs.HandOnNone.{said-append, none-quiet}
+use Rattle.model.proofs.HandOn.{handed-on}
 use Rattle.model.proofs.HandOnElse.{isBytes, saidBy, others-hand-nothing-on, ticks-hand-nothing-on}
 
 -- ---- calls that take no bytes
@@ -56,6 +57,7 @@ module _ (s : List ℕ) (t : Table) where
       gone : (m : Move) → handOns (saidBy m) ≡ 0 → handOns (itemsBy m) ≡ 0
       gone (refused n) z = z
       gone (gave g) z = z
+
       by : (b : Bool) → handOns (itemsBy (pick b (tickMove (slotSheet s f) h) (refused 5))) ≡ 0
       by true = gone (tickMove (slotSheet s f) h) (ticks-hand-nothing-on (slotSheet s f) h)
       by false = none-quiet isHandOn
@@ -116,5 +118,6 @@ row-handed-on s l t r f seat input d owner good room head =
         let items : d .items ≡ g .items = ap (λ (x : Did). x .items) (sym (did-same e)) in
         let long : d .long ≡ g .long = ap (λ (x : Did). x .long) (sym (did-same e)) in
         rw (items, long) (handed-on (slotSheet s f) (slot t f) seat input g good room head q)
+
     went : called s t (whose s (bytesFrom r input)) ≡ did d → HandedOn (slotSheet s f) (slot t f) seat input (d .items) (d .long)
     went = rw owner (by (move (slotSheet s f) (slot t f) (bytes seat input)) refl)

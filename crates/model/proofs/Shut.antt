@@ -74,7 +74,7 @@ new-keeps own =
     let marks : eqb (length (replicate seatCount false)) seatCount ≡ true = eq-eqb _ _ (length-replicate seatCount false) in
     let seats : everySeat (seatKeeps own newFarm) ≡ true = each-of (seatKeeps own newFarm) (new-seat own) seatCount in
     let places : leb (countIf isActive (replicate seatCount freeRow)) (own .quota) ≡ true =
-      le-leb (countIf isActive (replicate seatCount freeRow)) (own .quota) (omega (arith, count-none isActive freeRow refl seatCount)) in
+    le-leb (countIf isActive (replicate seatCount freeRow)) (own .quota) (omega (arith, count-none isActive freeRow refl seatCount)) in
     rw (rows, marks, seats, places) clock-starts
 
 fresh-keeps : (s : List ℕ) (f : ℕ) (rooms : List (List (List ℕ))) → goodFrom s f (fresh rooms) ≡ true
