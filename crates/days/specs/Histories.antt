@@ -1,9 +1,8 @@
 -- The histories of the worked days: what has gone by before the call that a day is about.
 -- Assumes nothing: these are definitions.
-use Prim.Native.Nat.{ℕ}
 use mathlib.Core.List.{List, [], _∷_, _++_}
 use Rattle.model.specs.Table.{Call, connectTo, bytesFrom}
-use Rattle.days.specs.Rig.{requestFor, alive}
+use Rattle.days.specs.Rig.{requestFor}
 
 -- so many connections to farm 0: they have rows 0, 1, ..
 abbrev pub one : List Call

@@ -1,13 +1,13 @@
 -- The rig of the worked days: its farm sheets, its testers' messages, and what the output sheet of a call says.
 -- Assumes nothing: these are definitions.
-use Prim.Native.Nat.{ℕ, zero, suc, _+_, _*_}
+use Prim.Native.Nat.{ℕ, _+_, _*_}
 use mathlib.Core.List.{List, [], _∷_, _++_, map}
 use lib.ListN.{length, getD, replicate}
 use Rattle.octets.specs.Numbers.{u16At, be16, be32}
 use Rattle.octets.specs.Parts.{part, joined}
 use Rattle.outsheet.specs.Sheet.{sheetOf}
 use Rattle.outsheet.specs.Replies.{entriesOf}
-use Rattle.model.specs.Table.{Table, Call, bytesFrom, tick, Lent, Outcome, refuses, did, tookOf, tableOf}
+use Rattle.model.specs.Table.{Table, Call, tick, Lent, Outcome, refuses, did, tookOf, tableOf}
 use Rattle.model.specs.History.{Made, fresh, stepOf, run}
 
 -- ---- farm sheets: "Header, 12 bytes: three u16 counts .., then three u16 offsets. The three sections follow in that order without gaps"

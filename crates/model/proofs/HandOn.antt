@@ -1,19 +1,15 @@
 -- Demand 2, last sentence: "A whole diagnostic message that the header rules pass reaches a controller exactly when its sender is active
 -- on that connection and the controller is known, reachable and of that farm."
 -- Assumes nothing.
-use Prim.Native.Nat.{ℕ, zero, suc, _+_, _≤_, _<_}
+use Prim.Native.Nat.{ℕ, _≤_}
 use mathlib.Core.Path.{_≡_, refl, sym, ap, _∙_}
-use mathlib.Core.Bool.{Bool, true, false, false≢true}
+use mathlib.Core.Bool.{true}
 use mathlib.Core.List.{List, [], _∷_, _++_}
 use native.Mathlib.Omega.{arith}
-use lib.Dec.{eqb, leb}
+use lib.Dec.{eqb}
 use lib.ListN.{length, getD, take}
 use borrow.Author.Tests.{eqb-true}
-use Rattle.octets.specs.Choice.{pick, unless}
-use Rattle.octets.specs.Search.{countIf, firstAt, sameList}
-use Rattle.octets.specs.declared.Found.{Found}
-use Rattle.octets.specs.declared.Found.the-variants.{At, Nothing}
-use Rattle.kinds.specs.declared.Clock.{Clock}
+use Rattle.octets.specs.Search.{countIf}
 use Rattle.kinds.specs.declared.Fault.{Fault}
 use Rattle.kinds.specs.declared.Request.{Request}
 use Rattle.kinds.specs.declared.Row.{Row}
@@ -25,17 +21,17 @@ use Rattle.kinds.specs.declared.Item.{Item}
 use Rattle.kinds.specs.declared.Reply.the-variants.{Nack, Ack, DiagnosticNack, HandOn}
 use Rattle.wire.specs.declared.payload.Ends.{Ends as Parties}
 use Rattle.wire.specs.Header.{headerSize, headerAt, mostPayload, codeOf, closes}
-use Rattle.wire.specs.Payload.{requestIn, addressIn, endsIn}
+use Rattle.wire.specs.Payload.{requestIn, endsIn}
 use Rattle.model.specs.FarmSheet.{FarmSheet, TargetIs, stranger, unreachable, reachable}
 use Rattle.model.specs.Row.{rowAt, activeAs, activeAsState, heardState}
-use Rattle.model.specs.Stream.{Stream, Event, inputEnded, wrong, finished, skipped, Taken}
-use Rattle.model.specs.Farm.{Farm, Done, does, quietly, andThen, says, closed}
-use Rattle.model.specs.Line.{decide, joined, answered, marked, settle}
-use Rattle.model.specs.Bytes.{decidedBy, requested, toTarget, diagnosed, messaged, faulted, eventDone, heardRow, heard, takenBy, payloadBy, bytesDone}
-use Rattle.model.specs.Move.{Own, bytes, Held, Given, Move, refused, gave, tookBytes, bytesBy, move}
+use Rattle.model.specs.Stream.{Event, inputEnded, wrong, finished, skipped, Taken}
+use Rattle.model.specs.Farm.{Farm, Done, does, andThen, says, closed}
+use Rattle.model.specs.Line.{decide, settle}
+use Rattle.model.specs.Bytes.{decidedBy, requested, toTarget, diagnosed, faulted, eventDone, heardRow, heard, takenBy, payloadBy, bytesDone}
+use Rattle.model.specs.Move.{bytes, Held, Given, gave, tookBytes, bytesBy, move}
 use Rattle.model.specs.Rule.{Good}
-use Rattle.model.specs.HandsOn.{inHandBytes, Whole, payloadOf, isHandOn, handOns, bytesAt, Reaches, Handed, HandedOn}
-use Rattle.model.proofs.Cases.{pick-case, split}
+use Rattle.model.specs.HandsOn.{Whole, payloadOf, isHandOn, handOns, bytesAt, Reaches, HandedOn}
+use Rattle.model.proofs.Cases.{pick-case}
 use Rattle.model.proofs.Rows.{row-set}
 use Rattle.model.proofs.HandOnNone.{NoHandOn, said-append, none-quiet, none-one, none-then, none-closed, none-joined, settle-hands-none, answered-hands-none}
 use Rattle.model.proofs.HandOnStream.{Ends, stream-ends}

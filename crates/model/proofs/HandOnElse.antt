@@ -1,35 +1,27 @@
 -- No call but bytes ever hands a payload on: connect, peer closed, link lost, datagram, message from a controller, tick, start.
 -- Assumes nothing.
-use Prim.Native.Nat.{ℕ, zero, suc, _+_, _≤_}
-use mathlib.Core.Path.{_≡_, refl, sym, ap, _∙_}
+use Prim.Native.Nat.{ℕ}
+use mathlib.Core.Path.{_≡_, refl, sym}
 use mathlib.Core.Bool.{Bool, true, false, false≢true}
-use mathlib.Core.List.{List, [], _∷_, _++_}
-use native.Mathlib.Omega.{arith}
-use lib.Dec.{eqb, leb, ltb}
+use mathlib.Core.List.{List, []}
+use lib.Dec.{eqb, leb}
 use lib.ListN.{length, take}
-use Rattle.octets.specs.Choice.{pick, unless}
 use Rattle.octets.specs.Search.{countIf, firstAt, sameList}
 use Rattle.octets.specs.declared.Found.{Found}
 use Rattle.octets.specs.declared.Found.the-variants.{At, Nothing}
 use Rattle.kinds.specs.declared.Answer.{Answer}
-use Rattle.kinds.specs.declared.Answer.the-variants.{Nothing as NoAnswer, With}
 use Rattle.kinds.specs.declared.DatagramVerdict.{DatagramVerdict}
 use Rattle.kinds.specs.declared.DatagramVerdict.the-variants.{NotAnswered, Passes, Wrong}
 use Rattle.kinds.specs.declared.Item.{Item}
 use Rattle.kinds.specs.declared.Reply.the-variants.{Message}
-use Rattle.kinds.specs.declared.Row.{Row}
-use Rattle.sheet.specs.declared.rows.Owner.{Owner}
-use Rattle.sheet.specs.declared.rows.Owner.the-variants.{Seat, Nobody}
-use Rattle.sheet.specs.Sheet.{farmCount}
-use Rattle.sheet.specs.Rows.{ownerOf}
 use Rattle.layout.specs.FarmRecord.{eidIn, vinIn}
 use Rattle.wire.specs.Header.{headerAt}
 use Rattle.datagram.specs.Datagram.{payloadOf, ifNamed, answerBy, answerFor, answerTo, datagramVerdict}
-use Rattle.model.specs.FarmSheet.{FarmSheet, slotSheet}
+use Rattle.model.specs.FarmSheet.{FarmSheet}
 use Rattle.model.specs.Row.{rowAt, isFree, isOpen, activeAs, atLimit}
-use Rattle.model.specs.Farm.{Farm, Done, quietly, andThen, says, closed, closedWhere, withLine}
-use Rattle.model.specs.Line.{cleared, left, settle}
-use Rattle.model.specs.Move.{Own, connect, bytes, peerClosed, linkLost, datagram, controller, Held, Given, Move, refused, gave, moves, connectedAt, connects, peerGone, linkGone, clockRun, aged, ticked, openRows, answers, datagramMove, mostUser, isTarget, toTester, controllerMove, move, tickMove}
+use Rattle.model.specs.Farm.{Farm, says, closed, closedWhere}
+use Rattle.model.specs.Line.{left, settle}
+use Rattle.model.specs.Move.{Own, connect, bytes, peerClosed, linkLost, datagram, controller, Held, Move, refused, gave, connectedAt, connects, peerGone, linkGone, clockRun, aged, ticked, openRows, answers, datagramMove, mostUser, isTarget, toTester, controllerMove, move, tickMove}
 use Rattle.model.specs.HandsOn.{isHandOn, handOns}
 use Rattle.model.proofs.Cases.{pick-case, unless-case}
 use Rattle.model.proofs.HandOnNone.{NoHandOn, none-quiet, none-one, none-then, none-closed, none-closings, none-left, settle-hands-none}

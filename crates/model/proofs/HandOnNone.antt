@@ -1,15 +1,14 @@
 -- What closings, answers, checks and settling do not say; so they hand nothing on.
 -- Assumes nothing.
-use Prim.Native.Nat.{ℕ, zero, suc, _+_, _≤_}
+use Prim.Native.Nat.{ℕ, zero, suc, _+_}
 use mathlib.Core.Path.{_≡_, refl, ap}
-use mathlib.Core.Bool.{Bool, true, false}
+use mathlib.Core.Bool.{Bool, false}
 use mathlib.Core.List.{List, [], _∷_, _++_}
 use native.Mathlib.Omega.{arith}
 use lib.Dec.{eqb}
 use Rattle.octets.specs.Choice.{one}
 use Rattle.octets.specs.Search.{countIf}
 use Rattle.octets.specs.Fold.{upTo}
-use Rattle.kinds.specs.declared.Check.{Check}
 use Rattle.kinds.specs.declared.Decision.{Decision}
 use Rattle.kinds.specs.declared.Decision.the-variants.{Now, Ask}
 use Rattle.kinds.specs.declared.HeadVerdict.{HeadVerdict}
@@ -21,8 +20,8 @@ use Rattle.kinds.specs.declared.Request.{Request}
 use Rattle.kinds.specs.declared.Row.{Row}
 use Rattle.model.specs.FarmSheet.{FarmSheet}
 use Rattle.model.specs.Row.{rowAt, wanted, waitingRow}
-use Rattle.model.specs.Farm.{Farm, Done, does, quietly, andThen, eachSeat, seatCount, withRow, withLine, says, closed, closedIf, closedWhere}
-use Rattle.model.specs.Line.{accepted, socketRules, asks, askedIf, asking, cleared, startedBy, started, advanced, answered, isSilent, headVerdict, serve, settleLine, settle, isEmpty, joined, without, leftBy, left}
+use Rattle.model.specs.Farm.{Farm, Done, quietly, andThen, eachSeat, seatCount, withRow, withLine, says, closed, closedIf, closedWhere}
+use Rattle.model.specs.Line.{accepted, socketRules, asks, askedIf, asking, cleared, startedBy, started, advanced, answered, isSilent, headVerdict, serve, settleLine, settle, isEmpty, joined, leftBy, left}
 use Rattle.model.specs.HandsOn.{isHandOn}
 use Rattle.model.proofs.Cases.{pick-case}
 use Rattle.model.proofs.Seats.{seatsTo}

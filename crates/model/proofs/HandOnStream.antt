@@ -1,13 +1,13 @@
 -- What a bytes call finishes, said by the bytes themselves: those of the message in hand, then those that come.
 -- Assumes nothing.
 use Prim.Native.Nat.{ℕ, zero, suc, _+_, _≤_, _<_}
-use mathlib.Core.Path.{_≡_, refl, sym, ap, subst, _∙_}
+use mathlib.Core.Path.{_≡_, refl, sym, ap, _∙_}
 use mathlib.Core.Bool.{Bool, true, false, false≢true}
 use mathlib.Core.Logic.{_⊎_, inl, inr}
 use mathlib.Core.List.{List, [], _∷_, _++_, append-assoc}
 use native.Mathlib.Numerals.{add-one}
 use native.Mathlib.Omega.{arith}
-use lib.Dec.{eqb, leb, ltb}
+use lib.Dec.{leb, ltb}
 use lib.ListN.{length, getD, take, drop, set, length-append, length-set, List·getD-append}
 use lib.Seq.{take-all, take-suc-set, length-take-le, take-at, drop-at}
 use borrow.Author.Tests.{ltb-true, ltb-false, leb-true, leb-false, lt-ltb, le-ltb}
@@ -23,7 +23,7 @@ use Rattle.wire.specs.declared.header.Header.{Header as Head}
 use Rattle.wire.proofs.HeaderLaws.{passes-all}
 use Rattle.wire.specs.Types.{types, tcp, lengthFits}
 use Rattle.wire.specs.Header.{headerSize, headerAt, mostPayload, verdictOf}
-use Rattle.model.specs.Stream.{Stream, streamOf, Event, inputEnded, wrong, finished, skipped, storedIn, isStored, judged, feed, Taken, takesBy, takes}
+use Rattle.model.specs.Stream.{Stream, streamOf, Event, inputEnded, finished, storedIn, isStored, judged, feed, Taken, takesBy, takes}
 use Rattle.model.specs.Rule.{PossibleAt}
 use Rattle.model.specs.HandsOn.{inHandBytes, Whole, payloadOf}
 use Rattle.model.proofs.Cases.{split}

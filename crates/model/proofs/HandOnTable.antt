@@ -1,14 +1,14 @@
 -- Hand-ons of a call on the whole table.
 -- Assumes nothing.
-use Prim.Native.Nat.{ℕ, zero, suc, _+_, _≤_}
-use mathlib.Core.Path.{_≡_, refl, sym, ap, _∙_}
+use Prim.Native.Nat.{ℕ, suc, _+_, _≤_}
+use mathlib.Core.Path.{_≡_, refl, sym, ap}
 use mathlib.Core.Bool.{Bool, true, false, false≢true}
-use mathlib.Core.List.{List, [], _∷_, _++_}
+use mathlib.Core.List.{List, [], _∷_}
 use native.Mathlib.Omega.{arith}
 use lib.Dec.{eqb, leb, ltb}
 use lib.ListN.{length, getD}
 use borrow.Author.Tests.{lt-ltb}
-use Rattle.octets.specs.Choice.{pick, unless}
+use Rattle.octets.specs.Choice.{pick}
 use Rattle.sheet.specs.declared.rows.Owner.{Owner}
 use Rattle.sheet.specs.declared.rows.Owner.the-variants.{Seat, Nobody}
 use Rattle.sheet.specs.Sheet.{farmCount, farmNo}
@@ -16,10 +16,10 @@ use Rattle.sheet.specs.Rows.{ownerOf}
 use Rattle.sheet.specs.Test.{goodSheet}
 use Rattle.sheet.proofs.RowsLaws.{owner-seat}
 use Rattle.wire.specs.Header.{headerSize, mostPayload}
-use Rattle.model.specs.FarmSheet.{FarmSheet, farmSheet, slotSheet}
+use Rattle.model.specs.FarmSheet.{farmSheet, slotSheet}
 use Rattle.model.specs.Row.{rowAt}
-use Rattle.model.specs.Move.{Own, bytes, connect, peerClosed, linkLost, datagram, controller, Held, Given, Move, refused, gave, move, tickMove}
-use Rattle.model.specs.Table.{Table, slot, goodTable, Call, connectTo, bytesFrom, peerClosedOn, linkLostOf, tick, datagramTo, messageFrom, Lent, leastOutput, assemblingSize, Whose, nobodys, farms, everyones, ofFarm, ofOwner, whose, Did, Outcome, refuses, did, movedTo, itemsBy, slotTick, tickItems, called, step, itemsOf}
+use Rattle.model.specs.Move.{Own, bytes, connect, peerClosed, linkLost, datagram, controller, Move, refused, gave, move, tickMove}
+use Rattle.model.specs.Table.{Table, slot, goodTable, Call, connectTo, bytesFrom, peerClosedOn, linkLostOf, tick, datagramTo, messageFrom, Lent, leastOutput, assemblingSize, farms, ofFarm, ofOwner, whose, Did, Outcome, refuses, did, movedTo, itemsBy, slotTick, tickItems, called, step, itemsOf}
 use Rattle.model.specs.Rule.{Good}
 use Rattle.model.specs.HandsOn.{isHandOn, handOns, HandedOn}
 use Rattle.model.proofs.Cases.{pick-case, unless-case}

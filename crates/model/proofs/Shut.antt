@@ -3,15 +3,13 @@
 -- Assumes nothing.
 use Prim.Native.Nat.{ℕ, zero, suc, _+_, _≤_, _<_}
 use mathlib.Core.Path.{_≡_, refl, sym, ap, _∙_}
-use mathlib.Core.Bool.{Bool, true, false, not, false≢true}
+use mathlib.Core.Bool.{Bool, true, false, false≢true}
 use mathlib.Core.List.{List, [], _∷_}
-use native.Mathlib.Nat.{not-suc-le-zero}
-use native.Mathlib.Numerals.{add-one}
 use native.Mathlib.Omega.{arith}
 use lib.Dec.{eqb, leb, ltb}
 use lib.ListN.{length, getD, take, replicate, length-replicate}
 use borrow.Author.Tests.{lt-ltb, le-leb, eq-eqb}
-use Rattle.octets.specs.Choice.{pick, both, either, unless, one}
+use Rattle.octets.specs.Choice.{both, either, one}
 use Rattle.octets.specs.Fold.{upTo}
 use Rattle.octets.specs.Search.{firstAt, countIf, all}
 use Rattle.octets.specs.declared.Found.{Found}
@@ -22,17 +20,17 @@ use Rattle.kinds.specs.declared.RowState.{RowState}
 use Rattle.kinds.specs.declared.RowState.the-variants.{Free, Fresh, Waiting, Active}
 use Rattle.kinds.specs.declared.Reply.{Reply}
 use Rattle.kinds.specs.declared.Reply.the-variants.{Nack, Identity, Activation, AliveCheck, Status, PowerMode, Message, Ack, DiagnosticNack, Close, HandOn}
-use Rattle.sheet.specs.Sheet.{farmCount, quotaOf}
-use Rattle.sheet.specs.Rows.{firstRow, rowsOwned}
+use Rattle.sheet.specs.Sheet.{farmCount}
+use Rattle.sheet.specs.Rows.{firstRow}
 use Rattle.sheet.specs.Test.{goodSheet}
 use Rattle.model.specs.FarmSheet.{FarmSheet, farmSheet, slotSheet}
 use Rattle.model.specs.Row.{checkLimit, freeRow, rowAt, isFree, isActive, isActiveState, activeAs}
-use Rattle.model.specs.Farm.{Farm, seatCount, newFarm, noMarks, does, andThen, says, closed}
-use Rattle.model.specs.Line.{accepted, byHolder, socketRules, byState, decide, isMarked, isAsked, answered, joined}
+use Rattle.model.specs.Farm.{Farm, seatCount, newFarm, andThen, says, closed}
+use Rattle.model.specs.Line.{accepted, byHolder, socketRules, byState, decide, answered}
 use Rattle.model.specs.Bytes.{decidedBy, requested}
 use Rattle.model.specs.Move.{Held, connectedAt, connects, move}
 use Rattle.model.specs.RuleTest.{everySeat, seatKeeps, goodFarm}
-use Rattle.model.specs.Table.{Table, slot, noHeld, goodFrom, goodTable, connectTo, Lent, leastOutput, assemblingSize, whose, Outcome, step, numberOf, rowOf}
+use Rattle.model.specs.Table.{slot, goodFrom, goodTable, connectTo, Lent, leastOutput, assemblingSize, whose, step, numberOf, rowOf}
 use Rattle.model.specs.History.{fresh}
 use Rattle.model.proofs.Cases.{split}
 use Rattle.model.proofs.HandOnNone.{said, none-joined}
