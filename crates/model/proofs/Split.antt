@@ -1,4 +1,4 @@
--- Rule 4 in two halves: what holds of rows and line by themselves, and what holds of the running check.
+-- Rule 4 in three parts: what holds of rows and line by themselves, what holds of the running check, and that rows are tidy.
 -- Assumes nothing.
 use Prim.Native.Nat.{ℕ, _≤_, _<_}
 use mathlib.Core.Path.{_≡_}
@@ -11,7 +11,7 @@ use Rattle.model.specs.FarmSheet.{FarmSheet}
 use Rattle.model.specs.Row.{checkLimit, rowAt, isOpen, isWaiting, isActive, activeAs, atLimit}
 use Rattle.model.specs.Farm.{Farm, seatCount}
 use Rattle.model.specs.Line.{isMarked, isAsked}
-use Rattle.model.specs.Rule.{times, PossibleAt, RowKeeps, HeadKeeps, Good}
+use Rattle.model.specs.Rule.{times, PossibleAt, RowKeeps, HeadKeeps, Tidy, Good}
 
 pub record Sound (own : FarmSheet) (f : Farm) : Type 0 where
   pub seats : length (f .rows) ≡ seatCount
@@ -46,8 +46,8 @@ sound-of g =
 pub calm-of : {own : FarmSheet} {f : Farm} → Good own f → Calm own f
 calm-of g = record { headKeeps = g .headKeeps; checkRuns = g .checkRuns; marksAsked = g .marksAsked }
 
-pub good-of : {own : FarmSheet} {f : Farm} → Sound own f → Calm own f → Good own f
-good-of s c =
+pub good-of : {own : FarmSheet} {f : Farm} → Sound own f → Calm own f → ((i : ℕ) → Tidy (rowAt (f .rows) i)) → Good own f
+good-of s c t =
     record {
       seats = s .seats;
       marksToo = s .marksToo;
@@ -61,6 +61,7 @@ good-of s c =
       checkRuns = c .checkRuns;
       marksAsked = c .marksAsked;
       possible = s .possible;
+      tidy = t;
     }
 
 -- what the rules ask of a farm's part of a good sheet (and nothing more is needed of it)

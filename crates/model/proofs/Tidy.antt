@@ -5,7 +5,7 @@ use mathlib.Core.Path.{_≡_, refl, sym, ap, _∙_}
 use mathlib.Core.Bool.{Bool, true, false}
 use mathlib.Core.List.{List, [], _∷_, map}
 use lib.Dec.{eqb, leb}
-use lib.ListN.{length, set, take, getD}
+use lib.ListN.{length, set, take, getD, replicate}
 use Rattle.octets.specs.declared.Found.{Found}
 use Rattle.octets.specs.declared.Found.the-variants.{At, Nothing}
 use Rattle.octets.specs.Choice.{pick, both, unless}
@@ -27,7 +27,7 @@ use Rattle.wire.specs.Payload.{requestIn, addressIn, endsIn}
 use Rattle.model.specs.FarmSheet.{FarmSheet, TargetIs, stranger, unreachable, reachable}
 use Rattle.model.specs.Row.{freeRow, rowAt, isFreeState, isFree, older, wanted, isOpen, activeAs}
 use Rattle.model.specs.Stream.{Event, inputEnded, wrong, finished, skipped, Taken, takes}
-use Rattle.model.specs.Farm.{Farm, withMarks, Done, does, quietly, andThen, says, closed, closedWhere}
+use Rattle.model.specs.Farm.{Farm, seatCount, newFarm, withMarks, Done, does, quietly, andThen, says, closed, closedWhere}
 use Rattle.model.specs.Line.{asks, isAsked, accepted, socketRules, decide, isSilent, askedIf, asking, cleared, startedBy, started, advanced, answered, headVerdict, serve, settleLine, settle, joined, leftBy, left, marked, isEmpty}
 use Rattle.model.specs.Bytes.{decidedBy, requested, toTarget, diagnosed, messaged, faulted, eventDone, heard, takenBy, bytesDone}
 use Rattle.model.specs.Move.{Own, connect, bytes, peerClosed, linkLost, datagram, controller, Held, Given, Move, refused, gave, connects, connectedAt, bytesBy, peerGone, linkGone, clockRun, aged, ticked, moves, mostUser, isTarget, controllerMove, datagramMove, toTester, move}
@@ -180,7 +180,7 @@ module _ (own : FarmSheet) where
       by [] = tidy-map older refl tidy-older (f .rows) t
       by (head ∷ rest) = tidy-map older refl tidy-older (f .rows) t
 
-  abbrev TidyMove : Move → Type 0
+  abbrev pub TidyMove : Move → Type 0
   TidyMove (refused n) = Unit {0}
   TidyMove (gave g) = TidyFarm (g .held .farm)
 
@@ -220,3 +220,13 @@ module _ (own : FarmSheet) where
       by true true false x = tt
       by true true true Nothing = tt
       by true true true (At seat) = t
+
+-- a new farm is tidy
+pub tidy-new : TidyFarm newFarm
+unfolding newFarm
+tidy-new i = all-free seatCount i
+  where
+    all-free : (n i : ℕ) → Tidy (rowAt (replicate n freeRow) i)
+    all-free zero i = tidy-between Free
+    all-free (suc n) zero = tidy-between Free
+    all-free (suc n) (suc i) = all-free n i

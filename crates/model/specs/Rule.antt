@@ -85,3 +85,5 @@ pub record Good (own : FarmSheet) (f : Farm) : Type 0 where
   pub marksAsked : (i : ℕ) → isMarked (f .marks) i ≡ true → isAsked own f i ≡ true
   -- "a stream place is impossible"
   pub possible : (i : ℕ) → PossibleAt (rowAt (f .rows) i .place) (rowAt (f .rows) i .head)
+  -- a table has no bytes that mean nothing (docs/DECISIONS.md, A6 and D5)
+  pub tidy : (i : ℕ) → Tidy (rowAt (f .rows) i)

@@ -1,13 +1,13 @@
 -- Rule 4 as a test: it says the same as the record (proofs/RuleTestLaws).
 -- Assumes nothing: these are definitions.
-use Prim.Native.Nat.{ℕ, suc}
+use Prim.Native.Nat.{ℕ, _-_}
 use mathlib.Core.Bool.{Bool, true, false, not}
 use mathlib.Core.List.{List, [], _∷_}
 use lib.Dec.{eqb, leb, ltb}
-use lib.ListN.{length}
+use lib.ListN.{length, drop, replicate}
 use Rattle.octets.specs.Choice.{both, either, one}
 use Rattle.octets.specs.Fold.{upTo}
-use Rattle.octets.specs.Search.{countIf, all}
+use Rattle.octets.specs.Search.{countIf, all, sameList}
 use Rattle.kinds.specs.declared.Fault.{Fault}
 use Rattle.kinds.specs.declared.Fault.the-variants.{Pattern, UnknownType, TooLong, WrongLength}
 use Rattle.kinds.specs.declared.Verdict.{Verdict}
@@ -21,7 +21,7 @@ use Rattle.kinds.specs.declared.HeadVerdict.{HeadVerdict}
 use Rattle.kinds.specs.declared.HeadVerdict.the-variants.{Pending, Answer, RunOut}
 use Rattle.wire.specs.Header.{headerSize, headerAt, verdictOf}
 use Rattle.model.specs.FarmSheet.{FarmSheet, slotSheet}
-use Rattle.model.specs.Row.{checkLimit, rowAt, isOpen, isWaiting, isActive, activeAs, atLimit}
+use Rattle.model.specs.Row.{checkLimit, rowAt, isFree, isOpen, isWaiting, isActive, activeAs, atLimit}
 use Rattle.model.specs.Farm.{Farm, seatCount}
 use Rattle.model.specs.Line.{isMarked, isAsked, headVerdict}
 use Rattle.model.specs.Rule.{times}
@@ -54,6 +54,16 @@ isBoundary (Header n) = eqb n 0
 isBoundary (Reading n) = false
 isBoundary (Skipping n) = false
 
+abbrev pub tidyAt : Place → List ℕ → Bool
+tidyAt (Header n) head = sameList (drop n head) (replicate (headerSize - n) 0)
+tidyAt (Reading n) head = true
+tidyAt (Skipping n) head = true
+
+abbrev pub isTidy : Row → Bool
+isTidy r =
+    both (eqb (length (r .head)) headerSize)
+    (both (tidyAt (r .place) (r .head)) (either (not (isFree r)) (isBoundary (r .place))))
+
 abbrev pub rowKeeps : FarmSheet → Row → RowState → Bool
 rowKeeps own r Free = true
 rowKeeps own r (Fresh age) = true
@@ -84,7 +94,7 @@ seatKeeps own f i =
     (both (eqb (times i (f .line)) (one (isWaiting (rowAt (f .rows) i))))
     (both (not (atLimit (rowAt (f .rows) i)))
     (both (either (not (isMarked (f .marks) i)) (isAsked own f i))
-    (possibleAt (rowAt (f .rows) i .place) (rowAt (f .rows) i .head)))))))
+    (both (possibleAt (rowAt (f .rows) i .place) (rowAt (f .rows) i .head)) (isTidy (rowAt (f .rows) i))))))))
 
 unfoldable pub goodFarm : FarmSheet → Farm → Bool
 goodFarm own f =
