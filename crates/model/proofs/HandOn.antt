@@ -184,11 +184,11 @@ module _ (own : FarmSheet) (seat : ℕ) (f : Farm) (t : Taken) where
 -- THE CLAIM. In a bytes call on a good farm, a payload is handed on to a controller exactly where the bytes that the row had in hand, and
 -- the input behind them, begin with a whole diagnostic message that the header rules pass, whose sender is active on that row, and whose
 -- controller is known, reachable and of that farm. Then it is handed on once, from that row, directly behind its 8002, and what is handed on
--- is the message's payload: the bytes behind its header. (A row's room is 2,048 bytes and its header eight.)
+-- is the message's payload: the bytes behind its header. (A row's room is 2,048 bytes.)
 pub handed-on : (own : FarmSheet) (h : Held) (seat : ℕ) (input : List ℕ) (g : Given) → Good own (h .farm) → mostPayload ≤ length (getD (h .rooms) seat [])
-    → length (rowAt (h .farm .rows) seat .head) ≡ headerSize → move own h (bytes seat input) ≡ gave g → HandedOn own h seat input (g .items) (g .long)
+    → move own h (bytes seat input) ≡ gave g → HandedOn own h seat input (g .items) (g .long)
 unfolding move
-handed-on own h seat input g good room head e =
+handed-on own h seat input g good room e =
     record {
       always = λ r.
           let s = bytes-says own seat (h .farm) t (bytesAt h seat input) ends r in
@@ -209,4 +209,5 @@ handed-on own h seat input g good room head e =
     long = ap (λ (x : Given). x .long) (gave-same took)
 
     ends : Ends (bytesAt h seat input) (t .event) (t .stream)
-    ends = stream-ends (rowAt (h .farm .rows) seat .place) (rowAt (h .farm .rows) seat .head) (getD (h .rooms) seat []) input head room (good .possible seat)
+    ends = stream-ends (rowAt (h .farm .rows) seat .place) (rowAt (h .farm .rows) seat .head) (getD (h .rooms) seat []) input (good .tidy seat .eight) room
+        (good .possible seat)

@@ -104,10 +104,10 @@ did-same e = cc
 
 -- THE CLAIM for a row of the whole table: as `handed-on`, for the farm that owns the row and the seat that the row has there.
 pub row-handed-on : (s : List ℕ) (l : Lent) (t : Table) (r f seat : ℕ) (input : List ℕ) (d : Did) → ownerOf s r ≡ Seat (farmNo f) seat
-    → Good (slotSheet s f) (slot t f .farm) → mostPayload ≤ length (getD (slot t f .rooms) seat []) → length (rowAt (slot t f .farm .rows) seat .head) ≡ headerSize
+    → Good (slotSheet s f) (slot t f .farm) → mostPayload ≤ length (getD (slot t f .rooms) seat [])
     → step s l t (bytesFrom r input) ≡ did d → HandedOn (slotSheet s f) (slot t f) seat input (d .items) (d .long)
 unfolding whose
-row-handed-on s l t r f seat input d owner good room head =
+row-handed-on s l t r f seat input d owner good room =
     step-case (λ o. o ≡ did d → HandedOn (slotSheet s f) (slot t f) seat input (d .items) (d .long)) s l t (bytesFrom r input)
     (λ n e. let z : _≡_ {A = ℕ} 0 1 = cc in absurd (omega arith)) (λ g. went)
   where
@@ -117,7 +117,7 @@ row-handed-on s l t r f seat input d owner good room head =
     by (gave g) q e =
         let items : d .items ≡ g .items = ap (λ (x : Did). x .items) (sym (did-same e)) in
         let long : d .long ≡ g .long = ap (λ (x : Did). x .long) (sym (did-same e)) in
-        rw (items, long) (handed-on (slotSheet s f) (slot t f) seat input g good room head q)
+        rw (items, long) (handed-on (slotSheet s f) (slot t f) seat input g good room q)
 
     went : called s t (whose s (bytesFrom r input)) ≡ did d → HandedOn (slotSheet s f) (slot t f) seat input (d .items) (d .long)
     went = rw owner (by (move (slotSheet s f) (slot t f) (bytes seat input)) refl)

@@ -11,7 +11,7 @@ use lib.ListN.{length, getD, take, replicate, length-replicate}
 use borrow.Author.Tests.{lt-ltb, le-leb, eq-eqb}
 use Rattle.octets.specs.Choice.{both, either, one}
 use Rattle.octets.specs.Fold.{upTo}
-use Rattle.octets.specs.Search.{firstAt, countIf, all}
+use Rattle.octets.specs.Search.{firstAt, countIf, all, sameList}
 use Rattle.octets.specs.declared.Found.{Found}
 use Rattle.octets.specs.declared.Found.the-variants.{At, Nothing}
 use Rattle.kinds.specs.declared.Request.{Request}
@@ -24,7 +24,7 @@ use Rattle.sheet.specs.Sheet.{farmCount}
 use Rattle.sheet.specs.Rows.{firstRow}
 use Rattle.sheet.specs.Test.{goodSheet}
 use Rattle.model.specs.FarmSheet.{FarmSheet, farmSheet, slotSheet}
-use Rattle.model.specs.Row.{checkLimit, freeRow, rowAt, isFree, isActive, isActiveState, activeAs}
+use Rattle.model.specs.Row.{checkLimit, noHead, freeRow, rowAt, isFree, isActive, isActiveState, activeAs}
 use Rattle.model.specs.Farm.{Farm, seatCount, newFarm, andThen, says, closed}
 use Rattle.model.specs.Line.{accepted, byHolder, socketRules, byState, decide, answered}
 use Rattle.model.specs.Bytes.{decidedBy, requested}
@@ -62,8 +62,8 @@ unfolding checkLimit
 clock-starts = refl
 
 new-seat : (own : FarmSheet) (i : ℕ) → seatKeeps own newFarm i ≡ true
-unfolding newFarm countIf
-new-seat own i = rw (get-same seatCount i freeRow, get-same seatCount i false, either-yes) refl
+unfolding newFarm countIf noHead sameList
+new-seat own i = rw (get-same seatCount i freeRow, get-same seatCount i false, either-yes (ltb i (own .rows))) refl
 
 new-keeps : (own : FarmSheet) → goodFarm own newFarm ≡ true
 unfolding goodFarm newFarm everySeat all
