@@ -4,7 +4,7 @@ use mathlib.Core.Path.{refl}
 use Prim.{tt}
 use Rattle.octets.specs.Fold.{upTo}
 use Rattle.octets.specs.Parts.{parts, joined}
-use Rattle.octets.specs.Search.{some, all, firstAt, countIf}
+use Rattle.octets.specs.Search.{some, all, firstAt, countIf, sameList}
 use Rattle.wire.specs.Types.{types, knownOn, lengthFits}
 use Rattle.wire.specs.Header.{verdictOf}
 use Rattle.outsheet.specs.Sheet.{entryBytes, bodies, offsets, sheetOf}
@@ -26,6 +26,6 @@ use Rattle.days.specs.Rig.{farmSheetOf, tableAfter, gives}
 use Rattle.days.specs.Table.{days}
 
 pub worked-days : Hold days
-unfolding days farmSheetOf tableAfter gives upTo parts joined some all firstAt countIf types knownOn lengthFits verdictOf entryBytes bodies offsets sheetOf lookup ownerFrom goodSheet everyBelow farmSheet noFarm slotSheet initialLimit checkLimit generalLimit mostTicks stepped noHead feed takes seatCount newFarm andThen eachSeat closed closedIf accepted socketRules decide allAnswered askedIf started advanced answered headVerdict settleLine joinedLine left isAsked marked requested diagnosed eventDone heard bytesDone noRow connects ticked move tickMove everySeat goodFarm goodTable leastOutput assemblingSize whose step run
+unfolding days farmSheetOf tableAfter gives upTo parts joined some all firstAt countIf sameList types knownOn lengthFits verdictOf entryBytes bodies offsets sheetOf lookup ownerFrom goodSheet everyBelow farmSheet noFarm slotSheet initialLimit checkLimit generalLimit mostTicks stepped noHead feed takes seatCount newFarm andThen eachSeat closed closedIf accepted socketRules decide allAnswered askedIf started advanced answered headVerdict settleLine joinedLine left isAsked marked requested diagnosed eventDone heard bytesDone noRow connects ticked move tickMove everySeat goodFarm goodTable leastOutput assemblingSize whose step run
 worked-days =
     (λ n. refl, (λ n. refl, (λ n. refl, (λ n. refl, (λ n. refl, (λ n. refl, (λ n. refl, (λ n. refl, (λ n. refl, (λ n. refl, (λ n. refl, (λ n. refl, (λ n. refl, tt)))))))))))))

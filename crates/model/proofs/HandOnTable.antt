@@ -15,9 +15,8 @@ use Rattle.sheet.specs.Sheet.{farmCount, farmNo}
 use Rattle.sheet.specs.Rows.{ownerOf}
 use Rattle.sheet.specs.Test.{goodSheet}
 use Rattle.sheet.proofs.RowsLaws.{owner-seat}
-use Rattle.wire.specs.Header.{headerSize, mostPayload}
+use Rattle.wire.specs.Header.{mostPayload}
 use Rattle.model.specs.FarmSheet.{farmSheet, slotSheet}
-use Rattle.model.specs.Row.{rowAt}
 use Rattle.model.specs.Move.{Own, bytes, connect, peerClosed, linkLost, datagram, controller, Move, refused, gave, move, tickMove}
 use Rattle.model.specs.Table.{Table, slot, goodTable, Call, connectTo, bytesFrom, peerClosedOn, linkLostOf, tick, datagramTo, messageFrom, Lent, leastOutput, assemblingSize, farms, ofFarm, ofOwner, whose, Did, Outcome, refuses, did, movedTo, itemsBy, slotTick, tickItems, called, step, itemsOf}
 use Rattle.model.specs.Rule.{Good}
@@ -80,7 +79,7 @@ module _ (s : List ℕ) (t : Table) where
   none-called (messageFrom f from to user) e = none-of-farm f (controller from to user) refl
 
 -- what holds of every refusal, and of the call where 1 to 4 are past
-step-case : (P : Outcome → Type 0) (s : List ℕ) (l : Lent) (t : Table) (c : Call) → ((n : ℕ) → P (refuses n)) → (goodTable s t ≡ true → P (called s t (whose s c)))
+pub step-case : (P : Outcome → Type 0) (s : List ℕ) (l : Lent) (t : Table) (c : Call) → ((n : ℕ) → P (refuses n)) → (goodTable s t ≡ true → P (called s t (whose s c)))
     → P (step s l t c)
 unfolding step
 step-case P s l t c r k =

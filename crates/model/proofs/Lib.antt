@@ -24,4 +24,5 @@ pub mod HandOnStream
 pub mod HandOn
 pub mod HandOnElse
 pub mod HandOnTable
+pub mod HandOnHistory
 pub mod Shut
