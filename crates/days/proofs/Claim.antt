@@ -28,4 +28,4 @@ use Rattle.days.specs.Table.{days}
 pub worked-days : Hold days
 unfolding days farmSheetOf tableAfter gives upTo parts joined some all firstAt countIf sameList types knownOn lengthFits verdictOf entryBytes bodies offsets sheetOf lookup ownerFrom goodSheet everyBelow farmSheet noFarm slotSheet initialLimit checkLimit generalLimit mostTicks stepped noHead feed takes seatCount newFarm andThen eachSeat closed closedIf accepted socketRules decide allAnswered askedIf started advanced answered headVerdict settleLine joinedLine left isAsked marked requested diagnosed eventDone heard bytesDone noRow connects ticked move tickMove everySeat goodFarm goodTable leastOutput assemblingSize whose step run
 worked-days =
-    (λ n. refl, (λ n. refl, (λ n. refl, (λ n. refl, (λ n. refl, (λ n. refl, (λ n. refl, (λ n. refl, (λ n. refl, (λ n. refl, (λ n. refl, (λ n. refl, (λ n. refl, tt)))))))))))))
+    (λ n. refl, (λ n. refl, (λ n. refl, (λ n. refl, (λ n. refl, (λ n. refl, (λ n. refl, (λ n. refl, (λ n. refl, (λ n. refl, (λ n. refl, tt)))))))))))

@@ -32,7 +32,7 @@ use Rattle.days.specs.Further.{furtherDays, codeIfAnswered, codeIfSilent
 pub further-days : Hold furtherDays
 unfolding furtherDays taken farmSheetOf tableAfter gives upTo parts joined some all firstAt countIf sameList types knownOn lengthFits verdictOf entryBytes bodies offsets sheetOf lookup ownerFrom goodSheet everyBelow farmSheet noFarm slotSheet initialLimit checkLimit generalLimit mostTicks stepped noHead feed takes seatCount newFarm andThen eachSeat closed closedIf accepted socketRules decide allAnswered askedIf started advanced answered headVerdict settleLine joinedLine left isAsked marked requested diagnosed eventDone heard bytesDone noRow connects ticked move tickMove everySeat goodFarm goodTable leastOutput assemblingSize whose step run
 further-days =
-    (λ n. refl, (λ n. refl, (λ n. refl, (λ n. refl, (λ n. refl, (λ n. refl, (λ n. refl, (λ n. refl, (λ n. refl, (λ n. refl, (λ n. refl, (λ n. refl, (λ n. refl, (λ n. refl, (λ n. refl, (λ n. refl, (λ n. refl, (λ n. refl, (λ n. refl, (λ n. refl, (λ n. refl, tt)))))))))))))))))))))
+    (λ n. refl, (λ n. refl, (λ n. refl, (λ n. refl, (λ n. refl, (λ n. refl, (λ n. refl, (λ n. refl, (λ n. refl, (λ n. refl, (λ n. refl, (λ n. refl, (λ n. refl, (λ n. refl, (λ n. refl, (λ n. refl, (λ n. refl, (λ n. refl, (λ n. refl, (λ n. refl, tt))))))))))))))))))))
 
 -- DECIDING ON JOINING is shut out: no rule that looks only at the calls up to B's joining gives the code that B gets, for it is 01 if A
 -- answers afterwards and 10 if A stays silent.

@@ -37,11 +37,11 @@ furtherDays =
     -- "row not active or source not its address: 8003 with 02, close (ours)"
     ∷ plain (gives (oneFarm 1) oneActive (bytesFrom 0 (diagnostic 0x0E01 0x1010 (0x3E ∷ [])) ∷ []))
     (sheet (refusal 0 0x1010 0x0E01 0x02 ∷ closing 0 ∷ []))
-    -- "q=2, A active as 0E00, B and C both ask for 0E00, all stay silent: tick 50 A closes, B gets 10 and a check"
-    ∷ plain (gives (oneFarm 2) threeWantOne (ticks 50))
-    (joined (replicate 49 nothing) ++ sheet (closing 0 ∷ answer 1 0x0E00 0x10 ∷ check 1 ∷ []))
-    -- "tick 100 B closes, C gets 10."
-    ∷ plain (gives (oneFarm 2) (threeWantOne ++ ticks 50) (ticks 50)) (joined (replicate 49 nothing) ++ sheet (closing 1 ∷ answer 2 0x0E00 0x10 ∷ []))
+    -- "q=2, A active as 0E00, B and C both ask for 0E00, all stay silent: tick 50 A closes, B gets 10 and a check; tick 100 B closes, C
+    -- gets 10."
+    ∷ plain (gives (oneFarm 2) threeWantOne (ticks 100))
+    (joined (replicate 49 nothing) ++ sheet (closing 0 ∷ answer 1 0x0E00 0x10 ∷ check 1 ∷ [])
+    ++ joined (replicate 49 nothing) ++ sheet (closing 1 ∷ answer 2 0x0E00 0x10 ∷ []))
     -- "An empty bytes call on a fresh or active row takes 0 and gives only `00 00 00 04`."
     ∷ plain (taken (oneFarm 1) one (bytesFrom 0 []) ∷ gives (oneFarm 1) one (bytesFrom 0 [] ∷ [])) (0 ∷ nothing)
     ∷ plain (taken (oneFarm 1) oneActive (bytesFrom 0 []) ∷ gives (oneFarm 1) oneActive (bytesFrom 0 [] ∷ [])) (0 ∷ nothing)

@@ -5,6 +5,7 @@ use mathlib.Core.List.{List, [], _∷_, _++_, map}
 use lib.ListN.{length, getD, replicate}
 use Rattle.octets.specs.Numbers.{u16At, be16, be32}
 use Rattle.octets.specs.Parts.{part, joined}
+use Rattle.sheet.specs.Sheet.{farmCount}
 use Rattle.outsheet.specs.Sheet.{sheetOf}
 use Rattle.outsheet.specs.Replies.{entriesOf}
 use Rattle.model.specs.Table.{Table, Call, tick, Lent, Outcome, refuses, did, tookOf, tableOf}
@@ -63,12 +64,13 @@ lent = record { output = 4096; assembling = 32768 }
 abbrev pub made : Call → Made
 made c = record { lent = lent; call = c }
 
--- "2,048 for each of 16 rows": a room for each row that the table has room for
-abbrev pub freshTable : Table
-freshTable = fresh (replicate 4 (replicate 9 (replicate 2048 0)))
+-- a slot for each of the sheet's farms (one beyond them holds no row and says nothing), and "2,048 for each of 16 rows": a room for each row
+-- that a farm has room for
+abbrev pub freshTable : List ℕ → Table
+freshTable s = fresh (replicate (farmCount s) (replicate 9 (replicate 2048 0)))
 
 unfoldable pub tableAfter : List ℕ → List Call → Table
-tableAfter s cs = run s freshTable (map made cs)
+tableAfter s cs = run s (freshTable s) (map made cs)
 
 -- the output sheet of an outcome; "A refusal returns its number, output length 0"
 abbrev pub outputOf : Outcome → List ℕ
