@@ -1,3 +1,7 @@
 pub mod Day
 pub mod Headers
+pub mod Rig
+pub mod Histories
 pub mod Table
+pub mod Entries
+pub mod Further

@@ -69,7 +69,7 @@ tick-good {own} f k = good-of (ticked-sound (sound-of k)) (tick-calm f k) (tidy-
 
 -- ---- over the table
 
-slot-good : (s : List ℕ) (i n : ℕ) (t : Table) (f : ℕ) → i + f ≡ n → GoodAll s i t → Good (slotSheet s n) (slot t f .farm)
+pub slot-good : (s : List ℕ) (i n : ℕ) (t : Table) (f : ℕ) → i + f ≡ n → GoodAll s i t → Good (slotSheet s n) (slot t f .farm)
 slot-good s i n [] f e k = new-good (slotSheet s n)
 slot-good s i n (x ∷ t) zero e k = subst (λ (m : ℕ). Good (slotSheet s m) (x .farm)) (omega arith) (k .0)
 slot-good s i n (x ∷ t) (suc f) e k = slot-good s (suc i) n t f (omega arith) (k .1)

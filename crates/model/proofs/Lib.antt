@@ -41,4 +41,10 @@ pub mod DueAnswer
 pub mod DueMoment
 pub mod DueTold
 pub mod Tight
-pub mod Try
+pub mod HandOnNone
+pub mod HandOnStream
+pub mod HandOn
+pub mod HandOnElse
+pub mod HandOnTable
+pub mod HandOnHistory
+pub mod Shut

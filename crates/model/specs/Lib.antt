@@ -10,3 +10,4 @@ pub mod RuleTest
 pub mod Table
 pub mod History
 pub mod Words
+pub mod HandsOn
