@@ -48,3 +48,4 @@ pub mod HandOnElse
 pub mod HandOnTable
 pub mod HandOnHistory
 pub mod Shut
+pub mod Promises

@@ -1,0 +1,99 @@
+-- THE PROMISES. What the asker demands (2 and 3), as theorems over histories: calls from a fresh table, under one farm sheet, with no second
+-- start. Each statement stands here whole, under the sentence that it is; the proofs are in the files named.
+-- Assumes nothing.
+use Prim.Native.Nat.{ℕ, _+_, _*_, _≤_, _<_}
+use mathlib.Core.Path.{_≡_}
+use mathlib.Core.Bool.{true, false}
+use mathlib.Core.List.{List, [], _∷_, _++_}
+use lib.ListN.{length, getD}
+use Rattle.kinds.specs.declared.Request.{Request}
+use Rattle.sheet.specs.declared.rows.Owner.the-variants.{Seat}
+use Rattle.sheet.specs.Sheet.{farmCount, farmNo}
+use Rattle.sheet.specs.Rules.{GoodSheet}
+use Rattle.sheet.specs.Rows.{ownerOf}
+use Rattle.wire.specs.Header.{mostPayload}
+use Rattle.model.specs.FarmSheet.{FarmSheet, slotSheet}
+use Rattle.model.specs.Row.{checkLimit, rowAt, activeAs}
+use Rattle.model.specs.Farm.{Farm, quietly}
+use Rattle.model.specs.Line.{settle}
+use Rattle.model.specs.Move.{Own, Held, move, tickMove}
+use Rattle.model.specs.Table.{Table, slot, goodTable, Call, bytesFrom, Lent, Did, did, itemsBy, step, tableOf}
+use Rattle.model.specs.History.{Made, fresh, stepOf, run, callsOf, hasOf}
+use Rattle.model.specs.Words.{MustWait, Answered, cutIn, ticksIn, entriesIn}
+use Rattle.model.specs.HandsOn.{HandedOn}
+use Rattle.model.proofs.Split.{Calm}
+use Rattle.model.proofs.Settling as settling
+use Rattle.model.proofs.TableTest as tested
+use Rattle.model.proofs.Refusals as refusals
+use Rattle.model.proofs.Address as address
+use Rattle.model.proofs.HandOnHistory as handed
+use Rattle.model.proofs.Bound as bound
+use Rattle.model.proofs.DueMoment.{Each, Told}
+use Rattle.model.proofs.DueTold as told
+use Rattle.model.proofs.Neighbour as neighbours
+
+-- ---- DEMAND 1, of the rules: "A call it can't serve is refused by a number from our list, exactly when the list says"
+
+-- for each number of the list, when it is given, as one record (proofs/Refusals); a refused call changes nothing by its shape
+pub refused-exactly : (s : List ℕ) (l : Lent) (t : Table) (c : Call) → refusals.Refusals s l t c
+refused-exactly = refusals.each-number
+
+-- ---- Rule 4 is kept: every call on a table that keeps it leaves one that keeps it, and so refusal 4 never meets a history
+
+pub rule-4-kept : (s : List ℕ) (l : Lent) (t : Table) (c : Call) → goodTable s t ≡ true → goodTable s (tableOf t (step s l t c)) ≡ true
+rule-4-kept = tested.step-test
+
+pub rule-4-in-histories : (s : List ℕ) (rooms : List (List (List ℕ))) (ms : List Made) → goodTable s (run s (fresh rooms) ms) ≡ true
+rule-4-in-histories = tested.history-test
+
+-- ---- DEMAND 2: "A tester's address is never active on two connections."
+
+pub never-active-twice : (s : List ℕ) (rooms : List (List (List ℕ))) (ms : List Made) (f g i j a : ℕ)
+    → activeAs a (rowAt (slot (run s (fresh rooms) ms) f .farm .rows) i) ≡ true
+    → activeAs a (rowAt (slot (run s (fresh rooms) ms) g .farm .rows) j) ≡ true → (f ≡ g) × (i ≡ j)
+never-active-twice = address.history-once
+
+-- ---- DEMAND 2: "A whole diagnostic message that the header rules pass reaches a controller exactly when its sender is active on that
+-- connection and the controller is known, reachable and of that farm." (`HandedOn` says both ways, and that what is handed on is the payload)
+
+pub handed-on-exactly : (s : List ℕ) (rooms : List (List (List ℕ))) (ms : List Made) (l : Lent) (r f seat : ℕ) (input : List ℕ) (d : Did)
+    → mostPayload ≤ length (getD (getD rooms f []) seat []) → ownerOf s r ≡ Seat (farmNo f) seat
+    → step s l (run s (fresh rooms) ms) (bytesFrom r input) ≡ did d
+    → HandedOn (slotSheet s f) (slot (run s (fresh rooms) ms) f) seat input (d .items) (d .long)
+handed-on-exactly = handed.history-hands-on
+
+-- ---- DEMAND 3: "a readable activation request that must wait for an alive check, and joins its farm's line at place k, has its final answer
+-- by the accepted clock tick number 50 times k after it joined, unless its own connection or its farm's link is lost first. Nobody's traffic
+-- can delay it further."
+
+pub answered-in-time : (s : List ℕ) (rooms : List (List (List ℕ))) (past : List Made) (m : Made) (row g seat k : ℕ) (q : Request)
+    → MustWait s (run s (fresh rooms) past) m row g seat q → k ≡ length (slot (run s (fresh rooms) past) g .farm .line) + 1
+    → let joined = tableOf (run s (fresh rooms) past) (stepOf s (run s (fresh rooms) past) m) in
+    (ms : List Made) → cutIn row g s joined ms ≡ false → checkLimit * k ≤ ticksIn s joined ms → Answered row (q .address) (entriesIn s joined ms)
+answered-in-time = bound.must-be-answered
+
+-- "joins its farm's line at place k": after its call the row stands at the end of the line as it was, and has no answer yet
+pub joins-at-the-end : (s : List ℕ) (t : Table) (m : Made) (row g seat : ℕ) (q : Request) → MustWait s t m row g seat q
+    → slot (tableOf t (stepOf s t m)) g .farm .line ≡ slot t g .farm .line ++ seat ∷ []
+joins-at-the-end = bound.joins-at
+
+-- "The answer is the one the rules give at the moment of deciding.": every 0006 of a call of a farm, and of a tick, has its reason
+pub code-by-the-rules : (own : FarmSheet) (h : Held) (c : Own) → Each (told.Reasons own h c) (itemsBy (move own h c))
+code-by-the-rules = told.move-why
+
+pub code-by-the-rules-in-a-tick : (own : FarmSheet) (h : Held)
+    → Each (Told own (told.atTick own h .line) (told.atTick own h)) (itemsBy (tickMove own h))
+code-by-the-rules-in-a-tick = told.tick-why
+
+-- ---- DEMAND 3: "And two such histories under the same sheet that agree on one farm's calls and on the accepted ticks, in their order, give
+-- that farm the same answers, replies and meters, whatever the other farms do." (and whatever stood in the assembling buffers before)
+
+pub same-for-the-farm : (s : List ℕ) → GoodSheet s → (g : ℕ) → g < farmCount s
+    → (a b : List (List (List ℕ))) → g < length a → g < length b → neighbours.SameShape (getD a g []) (getD b g [])
+    → (ms ns : List Made) → callsOf s g (fresh a) ms ≡ callsOf s g (fresh b) ns → hasOf s g (fresh a) ms ≡ hasOf s g (fresh b) ns
+same-for-the-farm = neighbours.neighbour-any
+
+-- ---- Settling: it ends with an empty line or a head whose check is needed and undecided; a settled farm stays as it is
+
+pub settled-stays : {own : FarmSheet} {f : Farm} → Calm own f → settle own f ≡ quietly f
+settled-stays = settling.settle-again
