@@ -30,7 +30,7 @@ use Rattle.model.specs.Line.{without}
 use Rattle.model.specs.Rule.{times, PossibleAt}
 use Rattle.model.specs.Meter.{hands}
 use Rattle.model.proofs.Cases.{pick-case, unless-case, split}
-use Rattle.model.proofs.Rows.{row-set}
+use Rattle.model.proofs.Rows.{row-set, row-map}
 
 -- ---- sums that wrap
 
@@ -229,3 +229,8 @@ clear-first (next e c) = e
 
 pub clear-rest : {rows : List Row} {i : ℕ} {l : List ℕ} → Clear rows (i ∷ l) → Clear rows l
 clear-rest (next e c) = c
+
+pub clear-older : {rows : List Row} {l : List ℕ} → Clear rows l → Clear (map older rows) l
+clear-older none = none
+clear-older {rows} (next {i = i} e c) =
+    next (ap inHand (row-map older refl rows i) ∙ hand-older (rowAt rows i .state) (rowAt rows i .place) ∙ e) (clear-older c)

@@ -4,4 +4,6 @@ pub mod Seats
 pub mod Split
 pub mod Balance
 pub mod MeterFarm
+pub mod MeterFarmMove
+pub mod MeterHistory
 pub mod Try

@@ -23,7 +23,7 @@ use Rattle.model.specs.Line.{accepted, asks, askedIf, asking, cleared, s
 use Rattle.model.specs.Meter.{hands, Differs}
 use Rattle.model.proofs.Cases.{pick-case}
 use Rattle.model.proofs.Rows.{row-set}
-use Rattle.model.proofs.Seats.{each-keeps, closings-keep}
+use Rattle.model.proofs.Seats.{each-keeps, closings-keep, closed-line}
 use Rattle.model.proofs.Balance.{wrap-left, wrap-more, wrap-right, hands-same, hands-free, Clear, none, next, clear-set, clear-first, clear-rest, clear-append, clear-without}
 
 -- ---- what the start of a check leaves alone: rows and meters
@@ -151,3 +151,17 @@ unfolding marked
 marked-keeps {d} own seat address f k =
     pick-case (Ready d) (both (activeAs address (rowAt (f .rows) seat)) (isAsked own f seat)) _ _
     (λ _. record { differs = k .differs; clear = k .clear }) (λ _. k)
+
+-- a closing and an answer leave the line as it is
+pub closed-ready : {d : ℕ} (own : FarmSheet) (seat : ℕ) (f : Farm) → Ready d f → Ready d (closed own seat f .farm)
+closed-ready {d} own seat f k = subst (λ (l : List ℕ). Keeps d l (closed own seat f .farm)) (sym (closed-line own seat f)) (closed-keeps own seat f k)
+
+pub answered-ready : {d : ℕ} (own : FarmSheet) (seat address code : ℕ) (f : Farm) → inHand (rowAt (f .rows) seat) ≡ 0 → Ready d f
+    → Ready d (answered own seat address code f .farm)
+unfolding answered andThen
+answered-ready {d} own seat address code f h k =
+    pick-case (λ (x : Done). Ready d (x .farm)) (eqb code accepted) _ _ (λ _. put-keeps seat (activeRow address) f refl h k)
+    (λ _. closed-ready own seat f k)
+
+pub closings-ready : {d : ℕ} (own : FarmSheet) (test : ℕ → Row → Bool) (f : Farm) → Ready d f → Ready d (closedWhere own test f .farm)
+closings-ready {d} own test f k = closings-keep own test (Ready d) f k (λ i x _ q. closed-ready own i x q)
