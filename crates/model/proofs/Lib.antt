@@ -6,4 +6,5 @@ pub mod Balance
 pub mod MeterFarm
 pub mod MeterFarmMove
 pub mod MeterHistory
+pub mod MeterFarmCut
 pub mod Try

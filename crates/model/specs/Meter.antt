@@ -19,24 +19,27 @@ use Rattle.wire.specs.Header.{headerSize, headerAt, verdictOf, closes}
 use Rattle.model.specs.FarmSheet.{FarmSheet}
 use Rattle.model.specs.Row.{inHand}
 use Rattle.model.specs.Farm.{Farm, wrap}
-use Rattle.model.specs.Table.{Table, Call, connectTo, bytesFrom, peerClosedOn, linkLostOf, tick, datagramTo, messageFrom, Outcome, rowOf, tookOf, itemsOf, tableOf}
+use Rattle.model.specs.Table.{Table, Call, connectTo, bytesFrom, peerClosedOn, linkLostOf, tick, datagramTo, messageFrom, Outcome, refuses, did, tableOf}
 use Rattle.model.specs.History.{Made, stepOf}
 
--- ---- a day's notes: each call, and of its answer the row, the bytes taken and the entries. "A refusal returns its number, output length
--- 0, bytes taken 0, row 255."
+-- ---- a day's notes: each call, and what its answer says
+
+-- a call that is turned away takes nothing and says nothing
+pub data Said : Type 0 where
+  turnedAway : Said
+  gives : (row took : ℕ) (items : List Item) → Said
+
+abbrev pub saidBy : Outcome → Said
+saidBy (refuses n) = turnedAway
+saidBy (did d) = gives (d .row) (d .took) (d .items)
 
 pub record Note : Type 0 where
   pub call : Call
-  pub row : ℕ
-  pub took : ℕ
-  pub items : List Item
-
-abbrev pub noteOf : Call → Outcome → Note
-noteOf c o = record { call = c; row = rowOf o; took = tookOf o; items = itemsOf o }
+  pub said : Said
 
 unfoldable pub notesOf : List ℕ → Table → List Made → List Note
 notesOf s t [] = []
-notesOf s t (m ∷ ms) = noteOf (m .call) (stepOf s t m) ∷ notesOf s (tableOf t (stepOf s t m)) ms
+notesOf s t (m ∷ ms) = record { call = m .call; said = saidBy (stepOf s t m) } ∷ notesOf s (tableOf t (stepOf s t m)) ms
 
 -- ---- the bytes of one connection, cut into messages by the header rules alone
 
@@ -123,12 +126,14 @@ filedBy r [] l = l
 filedBy r (it ∷ items) l = filedBy r items (pick (both (isClose (it .reply)) (eqb (it .row .0) r)) (filed l) l)
 
 -- a connect that opens the row begins a log; then come the bytes taken, then the closings
-unfoldable pub noted : ℕ → Note → Log → Log
-noted r n l = filedBy r (n .items) (took (bytesOn r (n .call) (n .took)) (pick (both (isConnect (n .call)) (eqb (n .row) r)) (begun l) l))
+abbrev pub notedBy : ℕ → Call → Said → Log → Log
+notedBy r c turnedAway l = l
+notedBy r c (gives row n items) l =
+    filedBy r items (took (bytesOn r c n) (pick (both (isConnect c) (eqb row r)) (begun l) l))
 
 unfoldable pub logFrom : ℕ → Log → List Note → Log
 logFrom r l [] = l
-logFrom r l (n ∷ ns) = logFrom r (noted r n l) ns
+logFrom r l (n ∷ ns) = logFrom r (notedBy r (n .call) (n .said) l) ns
 
 abbrev pub logOf : ℕ → List Note → Log
 logOf r ns = logFrom r noLog ns
@@ -157,9 +162,13 @@ tookOn own tick n = 0
 tookOn own (datagramTo f input) n = 0
 tookOn own (messageFrom f from to user) n = 0
 
-unfoldable pub takenIn : FarmSheet → List Note → ℕ
-takenIn own [] = 0
-takenIn own (n ∷ ns) = tookOn own (n .call) (n .took) + takenIn own ns
+abbrev pub takenBy : FarmSheet → Call → Said → ℕ
+takenBy own c turnedAway = 0
+takenBy own c (gives row n items) = tookOn own c n
+
+unfoldable pub takenOf : FarmSheet → List Note → ℕ
+takenOf own [] = 0
+takenOf own (n ∷ ns) = takenBy own (n .call) (n .said) + takenOf own ns
 
 -- "finished": over all connections of a row, those that have ended and the one that it has
 abbrev pub finishedOn : Log → ℕ
