@@ -7,4 +7,5 @@ pub mod MeterFarm
 pub mod MeterFarmMove
 pub mod MeterHistory
 pub mod MeterFarmCut
+pub mod MeterFarmStream
 pub mod Try

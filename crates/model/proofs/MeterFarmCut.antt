@@ -20,13 +20,13 @@ use Rattle.model.proofs.Cases.{pick-case, unless-case, split}
 
 -- ---- a message that is not all there
 
-short-none : (k : ℕ) (bytes : List ℕ) → length bytes < headerSize → finishedUpTo k bytes ≡ 0
+pub short-none : (k : ℕ) (bytes : List ℕ) → length bytes < headerSize → finishedUpTo k bytes ≡ 0
 unfolding finishedUpTo
 short-none zero bytes h = refl
 short-none (suc k) bytes h =
     unless-case (λ n. n ≡ 0) (leb headerSize (length bytes)) _ _ (λ _. refl) (λ t. absurd (omega (arith, leb-true headerSize (length bytes) t)))
 
-part-none : (k : ℕ) (bytes : List ℕ) → stops (verdictOf (headerAt bytes 0)) ≡ false → length bytes < wholeSize bytes → finishedUpTo k bytes ≡ 0
+pub part-none : (k : ℕ) (bytes : List ℕ) → stops (verdictOf (headerAt bytes 0)) ≡ false → length bytes < wholeSize bytes → finishedUpTo k bytes ≡ 0
 unfolding finishedUpTo
 part-none zero bytes e h = refl
 part-none (suc k) bytes e h =
@@ -65,7 +65,7 @@ pub whole-append : (a b : List ℕ) → Whole a → Whole b → Whole (a ++ b)
 whole-append a b w v c = ap finishedIn (append-assoc a b c) ∙ w (b ++ c) ∙ omega (arith, v c, length-append a b)
 
 -- a header is in the first eight bytes
-head-same : (a b : List ℕ) → ((i : ℕ) → i < headerSize → getD a i 0 ≡ getD b i 0) → headerAt a 0 ≡ headerAt b 0
+pub head-same : (a b : List ℕ) → ((i : ℕ) → i < headerSize → getD a i 0 ≡ getD b i 0) → headerAt a 0 ≡ headerAt b 0
 head-same a b h = rw (h 0 (omega arith), h 1 (omega arith), h 2 (omega arith), h 3 (omega arith), h 4 (omega arith), h 5 (omega arith), h 6 (omega arith), h 7 (omega arith)) refl
 
 pub head-append : (a b : List ℕ) → headerSize ≤ length a → headerAt (a ++ b) 0 ≡ headerAt a 0
@@ -73,7 +73,7 @@ head-append a b h = head-same (a ++ b) a (λ i l. List·getD-append a b 0 i (ome
 
 -- the front of what is cut, with its header known
 module _ (bytes : List ℕ) (h : Head) (is : headerAt bytes 0 ≡ h) (long : headerSize ≤ length bytes) where
-  cut-stops : stops (verdictOf h) ≡ true → finishedIn bytes ≡ headerSize
+  pub cut-stops : stops (verdictOf h) ≡ true → finishedIn bytes ≡ headerSize
   unfolding finishedUpTo
   cut-stops e = go (length bytes) long
     where
