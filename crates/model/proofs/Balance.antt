@@ -187,6 +187,13 @@ hand-open (Fresh c) p e = refl
 hand-open (Waiting q) p e = refl
 hand-open (Active a c) p e = refl
 
+-- between two messages nothing is in hand
+pub hand-boundary : (s : RowState) → inHandBy s boundary ≡ 0
+hand-boundary Free = refl
+hand-boundary (Fresh c) = refl
+hand-boundary (Waiting q) = refl
+hand-boundary (Active a c) = refl
+
 hand-older : (s : RowState) (p : Place) → inHandBy (olderState s) p ≡ inHandBy s p
 hand-older Free p = refl
 hand-older (Fresh c) p = refl
@@ -198,39 +205,43 @@ unfolding hands
 hands-older [] = refl
 hands-older (x ∷ xs) = omega (arith, hand-older (x .state) (x .place), hands-older xs)
 
--- ---- rows with nothing in hand: those of a line
+-- ---- the rows of a line: below n, with nothing in hand
 
-pub data Clear (rows : List Row) : List ℕ → Type 0 where
-  none : Clear rows []
-  next : {i : ℕ} {l : List ℕ} → inHand (rowAt rows i) ≡ 0 → Clear rows l → Clear rows (i ∷ l)
+pub data Clear (n : ℕ) (rows : List Row) : List ℕ → Type 0 where
+  none : Clear n rows []
+  next : {i : ℕ} {l : List ℕ} → i < n → inHand (rowAt rows i) ≡ 0 → Clear n rows l → Clear n rows (i ∷ l)
 
-pub clear-set : {rows : List Row} {l : List ℕ} (r : ℕ) (x : Row) → inHand x ≡ 0 → Clear rows l → Clear (set rows r x) l
+pub clear-below : {n : ℕ} {rows : List Row} {i : ℕ} {l : List ℕ} → Clear n rows (i ∷ l) → i < n
+clear-below (next b e c) = b
+
+pub clear-first : {n : ℕ} {rows : List Row} {i : ℕ} {l : List ℕ} → Clear n rows (i ∷ l) → inHand (rowAt rows i) ≡ 0
+clear-first (next b e c) = e
+
+pub clear-rest : {n : ℕ} {rows : List Row} {i : ℕ} {l : List ℕ} → Clear n rows (i ∷ l) → Clear n rows l
+clear-rest (next b e c) = c
+
+pub clear-set : {n : ℕ} {rows : List Row} {l : List ℕ} (r : ℕ) (x : Row) → inHand x ≡ 0 → Clear n rows l → Clear n (set rows r x) l
 clear-set r x e none = none
-clear-set {rows} r x e (next {i = i} h c) = next (row-set rows r i x (λ y. inHand y ≡ 0) (λ _ _. e) h) (clear-set r x e c)
+clear-set {rows = rows} r x e (next {i = i} b h c) = next b (row-set rows r i x (λ y. inHand y ≡ 0) (λ _ _. e) h) (clear-set r x e c)
 
 -- from what holds of each seat that stands in the line
-pub clear-of : (rows : List Row) (l : List ℕ) → ((i : ℕ) → 1 ≤ times i l → inHand (rowAt rows i) ≡ 0) → Clear rows l
+pub clear-of : (n : ℕ) (rows : List Row) (l : List ℕ) → ((i : ℕ) → 1 ≤ times i l → (i < n) × (inHand (rowAt rows i) ≡ 0)) → Clear n rows l
 unfolding countIf
-clear-of rows [] h = none
-clear-of rows (i ∷ l) h =
-    next (h i (let t : one (eqb i i) ≡ 1 = ap one (eq-eqb i i refl) in omega arith)) (clear-of rows l (λ j k. h j (omega arith)))
+clear-of n rows [] h = none
+clear-of n rows (i ∷ l) h =
+    let k = h i (let t : one (eqb i i) ≡ 1 = ap one (eq-eqb i i refl) in omega arith) in
+    next (k .0) (k .1) (clear-of n rows l (λ j k. h j (omega arith)))
 
-pub clear-append : {rows : List Row} {l : List ℕ} (i : ℕ) → inHand (rowAt rows i) ≡ 0 → Clear rows l → Clear rows (l ++ (i ∷ []))
-clear-append i e none = next e none
-clear-append i e (next h c) = next h (clear-append i e c)
+pub clear-append : {n : ℕ} {rows : List Row} {l : List ℕ} (i : ℕ) → i < n → inHand (rowAt rows i) ≡ 0 → Clear n rows l → Clear n rows (l ++ (i ∷ []))
+clear-append i b e none = next b e none
+clear-append i b e (next k h c) = next k h (clear-append i b e c)
 
-pub clear-without : {rows : List Row} {l : List ℕ} (i : ℕ) → Clear rows l → Clear rows (without i l)
+pub clear-without : {n : ℕ} {rows : List Row} {l : List ℕ} (i : ℕ) → Clear n rows l → Clear n rows (without i l)
 clear-without i none = none
-clear-without {rows} i (next {i = x} {l = l} h c) =
-    pick-case (Clear rows) (eqb i x) (without i l) (x ∷ without i l) (λ _. clear-without i c) (λ _. next h (clear-without i c))
+clear-without {n} {rows} i (next {i = x} {l = l} b h c) =
+    pick-case (Clear n rows) (eqb i x) (without i l) (x ∷ without i l) (λ _. clear-without i c) (λ _. next b h (clear-without i c))
 
-pub clear-first : {rows : List Row} {i : ℕ} {l : List ℕ} → Clear rows (i ∷ l) → inHand (rowAt rows i) ≡ 0
-clear-first (next e c) = e
-
-pub clear-rest : {rows : List Row} {i : ℕ} {l : List ℕ} → Clear rows (i ∷ l) → Clear rows l
-clear-rest (next e c) = c
-
-pub clear-older : {rows : List Row} {l : List ℕ} → Clear rows l → Clear (map older rows) l
+pub clear-older : {n : ℕ} {rows : List Row} {l : List ℕ} → Clear n rows l → Clear n (map older rows) l
 clear-older none = none
-clear-older {rows} (next {i = i} e c) =
-    next (ap inHand (row-map older refl rows i) ∙ hand-older (rowAt rows i .state) (rowAt rows i .place) ∙ e) (clear-older c)
+clear-older {rows = rows} (next {i = i} b e c) =
+    next b (ap inHand (row-map older refl rows i) ∙ hand-older (rowAt rows i .state) (rowAt rows i .place) ∙ e) (clear-older c)

@@ -4,8 +4,5 @@ pub mod Seats
 pub mod Split
 pub mod Balance
 pub mod MeterFarm
-pub mod MeterFarmMove
-pub mod MeterHistory
-pub mod MeterFarmCut
-pub mod MeterFarmStream
+pub mod MeterFarmLine
 pub mod Try

@@ -1,167 +1,268 @@
--- The meters of one farm: each thing that a farm does keeps the difference of the two sides of the meter equation.
+-- What a farm does, for any property of the farm and of the entries said so far: if closing a row, giving a row that has nothing in hand
+-- a new state, speaking, changing line, clock and marks, and ageing keep it, then settling and every call keep it.
 -- Assumes nothing.
 use Prim.Native.Nat.{ℕ, zero, suc, _+_, _≤_, _<_}
 use mathlib.Core.Path.{_≡_, refl, sym, ap, subst, _∙_}
 use mathlib.Core.Bool.{Bool, true, false, false≢true}
-use mathlib.Core.List.{List, [], _∷_, _++_}
+use mathlib.Core.Logic.{_⊎_, ⊎-elim, inl, inr}
+use mathlib.Core.List.{List, [], _∷_, _++_, append-assoc, append-nil, map}
 use native.Mathlib.Omega.{arith}
-use lib.Dec.{eqb}
+use lib.Dec.{eqb, leb}
 use lib.ListN.{getD, set, length}
+use borrow.Author.Tests.{eqb-true, leb-true, leb-false}
+use Rattle.octets.specs.declared.Found.{Found}
+use Rattle.octets.specs.declared.Found.the-variants.{At, Nothing}
 use Rattle.octets.specs.Choice.{pick, both}
+use Rattle.octets.specs.Search.{firstAt, countIf}
+use Rattle.octets.specs.Fold.{upTo}
+use Rattle.kinds.specs.declared.Clock.{Clock}
 use Rattle.kinds.specs.declared.Request.{Request}
 use Rattle.kinds.specs.declared.Check.{Check}
+use Rattle.kinds.specs.declared.Check.the-variants.{One, All}
 use Rattle.kinds.specs.declared.Decision.{Decision}
 use Rattle.kinds.specs.declared.Decision.the-variants.{Now, Ask}
 use Rattle.kinds.specs.declared.HeadVerdict.{HeadVerdict}
 use Rattle.kinds.specs.declared.HeadVerdict.the-variants.{Pending, Answer, RunOut}
+use Rattle.kinds.specs.declared.RowState.{RowState}
+use Rattle.kinds.specs.declared.RowState.the-variants.{Free, Fresh, Waiting, Active}
 use Rattle.kinds.specs.declared.Row.{Row}
-use Rattle.kinds.specs.declared.Reply.the-variants.{Activation}
+use Rattle.kinds.specs.declared.Item.{Item}
+use Rattle.kinds.specs.declared.Reply.the-variants.{Activation, AliveCheck}
 use Rattle.model.specs.FarmSheet.{FarmSheet}
-use Rattle.model.specs.Row.{freeRow, rowAt, inHand, activeRow, waitingRow, activeAs, wanted}
-use Rattle.model.specs.Farm.{Farm, withRow, withLine, withMeters, Done, does, quietly, andThen, eachSeat, says, wrap, closed, closedWhere}
-use Rattle.model.specs.Line.{accepted, asks, askedIf, asking, cleared, startedBy, started, advanced, answered, headVerdict, isSilent, serve, settleLine, settle, socketRules, joined, isEmpty, without, leftBy, left, isAsked, marked}
-use Rattle.model.specs.Meter.{hands, Differs}
-use Rattle.model.proofs.Cases.{pick-case}
+use Rattle.model.specs.Row.{clockOf, checkLimit, rowOf, freeRow, rowAt, inHand, isOpenState, isOpen, isActive, activeAs, activeRow, waitingRow, wanted}
+use Rattle.model.specs.Farm.{Farm, seatCount, withRow, withLine, Done, does, quietly, andThen, eachSeat, says, closed, closedIf, closedWhere}
+use Rattle.model.specs.Line.{accepted, asks, isSilent, isMarked, allAnswered, refusalOf, byPlaces, byHolder, askedIf, asking, cleared, startedBy, started, advanced, answered, verdictBy, headVerdict, serve, settleLine, socketRules, joined, isEmpty, leftBy, left, isAsked, marked}
+use Rattle.model.specs.Move.{aged}
+use Rattle.model.specs.Meter.{isClose}
+use Rattle.model.proofs.Cases.{pick-case, split}
 use Rattle.model.proofs.Rows.{row-set}
-use Rattle.model.proofs.Seats.{each-keeps, closings-keep, closed-line}
-use Rattle.model.proofs.Balance.{wrap-left, wrap-more, wrap-right, hands-same, hands-free, Clear, none, next, clear-set, clear-first, clear-rest, clear-append, clear-without}
+use Rattle.model.proofs.Seats.{closed-line}
+use Rattle.model.proofs.Balance.{hand-boundary, Clear, none, next, clear-below, clear-first, clear-rest, clear-set, clear-append, clear-without}
 
--- ---- what the start of a check leaves alone: rows and meters
+-- ---- the property, and what keeps it
 
-pub asked-farm : (own : FarmSheet) (check : Check) (f : Farm) → eachSeat (askedIf own check) f .farm ≡ f
-unfolding askedIf
-asked-farm own check f =
-    each-keeps (askedIf own check) f (λ x. x ≡ f) refl
-    (λ i x e. pick-case (λ (d : Done). d .farm ≡ f) (asks check i (rowAt (x .rows) i)) _ _ (λ _. e) (λ _. e))
+pub record Laws (own : FarmSheet) (Q : List Item → Farm → Type 0) : Type 0 where
+  pub closes : (is : List Item) (seat : ℕ) (f : Farm) → seat < own .rows → Q is f → Q (is ++ closed own seat f .items) (closed own seat f .farm)
+  pub puts : (is : List Item) (seat : ℕ) (s : RowState) (f : Farm) → seat < own .rows → isOpenState s ≡ true → inHand (rowAt (f .rows) seat) ≡ 0
+      → Q is f → Q is (withRow f seat (rowOf s))
+  pub speaks : (is : List Item) (it : Item) (f : Farm) → isClose (it .reply) ≡ false → Q is f → Q (is ++ (it ∷ [])) f
+  pub lines : (is : List Item) (f : Farm) (line : List ℕ) (clock : Clock) (marks : List Bool) → Q is f
+      → Q is (record { rows = f .rows; line = line; clock = clock; marks = marks; meters = f .meters })
+  pub ages : (is : List Item) (f : Farm) → Q is f → Q is (aged f)
 
-asking-farm : (own : FarmSheet) (d : Decision) (f : Farm) → asking own d f .farm ≡ f
-asking-farm own (Now code) f = refl
-asking-farm own (Ask check) f = asked-farm own check f
+-- beside it: rows beyond the farm's own are not open, and the rows of the line l are the farm's, with nothing in hand
+pub record Keeps (own : FarmSheet) (Q : List Item → Farm → Type 0) (l : List ℕ) (is : List Item) (f : Farm) : Type 0 where
+  pub holds : Q is f
+  pub clear : Clear (own .rows) (f .rows) l
+  pub within : (i : ℕ) → own .rows ≤ i → isOpen (rowAt (f .rows) i) ≡ false
 
-started-by-farm : (own : FarmSheet) (l : List ℕ) (f : Farm) → startedBy own l f .farm ≡ cleared f
-started-by-farm own [] f = refl
-started-by-farm own (head ∷ rest) f = asking-farm own (socketRules own (f .rows) (wanted (rowAt (f .rows) head))) (cleared f)
+-- ---- one thing after another
 
-pub started-farm : (own : FarmSheet) (f : Farm) → started own f .farm ≡ cleared f
-unfolding started
-started-farm own f = started-by-farm own (f .line) f
+-- a property of what was said and of the farm, after a part of a call that starts at a farm where `is` was said
+abbrev pub Then : (List Item → Farm → Type 0) → List Item → Done → Type 0
+Then K is d = K (is ++ d .items) (d .farm)
 
-pub advanced-farm : (own : FarmSheet) (rest : List ℕ) (f : Farm) → advanced own rest f .farm ≡ cleared (withLine f rest)
-unfolding advanced
-advanced-farm own rest f = started-farm own (withLine f rest)
+pub then-then : (K J : List Item → Farm → Type 0) (is : List Item) (d : Done) (g : Farm → Done) → Then K is d
+    → ((js : List Item) → K js (d .farm) → Then J js (g (d .farm))) → Then J is (andThen d g)
+unfolding andThen
+then-then K J is d g k h =
+    subst (λ (js : List Item). J js (g (d .farm) .farm)) (append-assoc is (d .items) (g (d .farm) .items)) (h (is ++ d .items) k)
 
--- ---- the difference d, and rows with nothing in hand at some seats
+pub then-quiet : (K : List Item → Farm → Type 0) (is : List Item) (f : Farm) → K is f → Then K is (quietly f)
+then-quiet K is f k = subst (λ (js : List Item). K js f) (sym (append-nil is)) k
 
-pub record Keeps (d : ℕ) (l : List ℕ) (f : Farm) : Type 0 where
-  pub differs : Differs d f
-  pub clear : Clear (f .rows) l
-
-pub closed-keeps : {d : ℕ} {l : List ℕ} (own : FarmSheet) (seat : ℕ) (f : Farm) → Keeps d l f → Keeps d l (closed own seat f .farm)
-unfolding closed
-closed-keeps own seat f k =
-    record {
-      differs =
-        k .differs ∙ ap (λ (x : ℕ). wrap (f .meters .finished + x)) (lost-here (f .meters .lost) _ _ _ (hands-free (f .rows) seat)) ∙
-        sym (wrap-right (f .meters .finished) (f .meters .lost + inHand (rowAt (f .rows) seat)) (hands (set (f .rows) seat freeRow)));
-      clear = clear-set seat freeRow refl (k .clear);
-    }
+pub then-each : (K : List Item → Farm → Type 0) (is : List Item) (g : ℕ → Farm → Done) (f : Farm) → K is f
+    → ((i : ℕ) (js : List Item) (x : Farm) → K js x → Then K js (g i x)) → Then K is (eachSeat g f)
+unfolding eachSeat upTo
+then-each K is g f k h = go seatCount
   where
-    lost-here : (a x y z : ℕ) → x + y ≡ z → a + z ≡ a + y + x
-    lost-here a x y z e = omega arith
+    go : (n : ℕ) → Then K is (upTo (λ i d. andThen d (g i)) (quietly f) n)
+    go zero = then-quiet K is f k
+    go (suc n) = then-then K K is (upTo (λ i d. andThen d (g i)) (quietly f) n) (g n) (go n) (λ js x. h n js _ x)
 
--- a row with nothing in hand becomes another with nothing in hand
-pub put-keeps : {d : ℕ} {l : List ℕ} (seat : ℕ) (x : Row) (f : Farm) → inHand x ≡ 0 → inHand (rowAt (f .rows) seat) ≡ 0 → Keeps d l f
-    → Keeps d l (withRow f seat x)
-put-keeps seat x f e h k =
-    record {
-      differs = k .differs ∙ ap (λ (n : ℕ). wrap (f .meters .finished + (f .meters .lost + n))) (sym (hands-same (f .rows) seat x (e ∙ sym h)));
-      clear = clear-set seat x e (k .clear);
-    }
+-- ---- rows that are the farm's own
 
-pub closings-keeps : {d : ℕ} {l : List ℕ} (own : FarmSheet) (test : ℕ → Row → Bool) (f : Farm) → Keeps d l f
-    → Keeps d l (closedWhere own test f .farm)
-closings-keeps {d} {l} own test f k = closings-keep own test (Keeps d l) f k (λ i x _ q. closed-keeps own i x q)
+pub open-below : (own : FarmSheet) (f : Farm) → ((i : ℕ) → own .rows ≤ i → isOpen (rowAt (f .rows) i) ≡ false)
+    → (i : ℕ) → isOpen (rowAt (f .rows) i) ≡ true → i < own .rows
+open-below own f w i o =
+    split (leb (own .rows) i) (λ t. absurd (false≢true (sym (w i (leb-true (own .rows) i t)) ∙ o))) (λ t. leb-false (own .rows) i t)
 
-pub answered-keeps : {d : ℕ} {l : List ℕ} (own : FarmSheet) (seat address code : ℕ) (f : Farm) → inHand (rowAt (f .rows) seat) ≡ 0 → Keeps d l f
-    → Keeps d l (answered own seat address code f .farm)
-unfolding answered andThen
-answered-keeps {d} {l} own seat address code f h k =
-    pick-case (λ (x : Done). Keeps d l (x .farm)) (eqb code accepted) _ _ (λ _. put-keeps seat (activeRow address) f refl h k)
-    (λ _. closed-keeps own seat f k)
+-- rows that pass a test are among the farm's own: by their number, or for being open
+abbrev pub Owned : FarmSheet → (ℕ → Row → Bool) → Type 0
+Owned own test = (i : ℕ) (r : Row) → test i r ≡ true → (i < own .rows) ⊎ (isOpen r ≡ true)
 
-pub advanced-keeps : {d : ℕ} {l : List ℕ} (own : FarmSheet) (rest : List ℕ) (f : Farm) → Keeps d l f → Keeps d l (advanced own rest f .farm)
-advanced-keeps {d} {l} own rest f k = rw (advanced-farm own rest f) (record { differs = k .differs; clear = k .clear })
+module _ {own : FarmSheet} {Q : List Item → Farm → Type 0} (laws : Laws own Q) {l : List ℕ} where
+  pub speak-keeps : (is : List Item) (it : Item) (f : Farm) → isClose (it .reply) ≡ false → Keeps own Q l is f → Keeps own Q l (is ++ (it ∷ [])) f
+  speak-keeps is it f e k = record { holds = laws .speaks is it f e (k .holds); clear = k .clear; within = k .within }
+
+  pub closed-keeps : (is : List Item) (seat : ℕ) (f : Farm) → seat < own .rows → Keeps own Q l is f → Then (Keeps own Q l) is (closed own seat f)
+  unfolding closed
+  closed-keeps is seat f b k =
+      record {
+        holds = laws .closes is seat f b (k .holds);
+        clear = clear-set seat freeRow refl (k .clear);
+        within = λ i h. row-set (f .rows) seat i freeRow (λ y. isOpen y ≡ false) (λ _ _. refl) (k .within i h);
+      }
+
+  pub closings-keeps : (is : List Item) (test : ℕ → Row → Bool) (f : Farm) → Owned own test → Keeps own Q l is f
+      → Then (Keeps own Q l) is (closedWhere own test f)
+  unfolding closedIf
+  closings-keeps is test f o k =
+      then-each (Keeps own Q l) is (closedIf own test) f k
+      (λ i js x q. pick-case (Then (Keeps own Q l) js) (test i (rowAt (x .rows) i)) (closed own i x) (quietly x)
+      (λ t. closed-keeps js i x (⊎-elim (λ b. b) (open-below own x (q .within) i) (o i (rowAt (x .rows) i) t)) q)
+      (λ _. then-quiet (Keeps own Q l) js x q))
+
+  pub put-keeps : (is : List Item) (seat : ℕ) (s : RowState) (f : Farm) → seat < own .rows → isOpenState s ≡ true → inHand (rowAt (f .rows) seat) ≡ 0
+      → Keeps own Q l is f → Keeps own Q l is (withRow f seat (rowOf s))
+  put-keeps is seat s f b o e k =
+      record {
+        holds = laws .puts is seat s f b o e (k .holds);
+        clear = clear-set seat (rowOf s) (hand-boundary s) (k .clear);
+        within = λ i h. row-set (f .rows) seat i (rowOf s) (λ y. isOpen y ≡ false) (λ z _. absurd (omega arith)) (k .within i h);
+      }
+
+  pub lines-keeps : (is : List Item) (f : Farm) (line : List ℕ) (clock : Clock) (marks : List Bool) → Keeps own Q l is f
+      → Keeps own Q l is (record { rows = f .rows; line = line; clock = clock; marks = marks; meters = f .meters })
+  lines-keeps is f line clock marks k = record { holds = laws .lines is f line clock marks (k .holds); clear = k .clear; within = k .within }
+
+  -- ---- answers and checks
+
+  pub answered-keeps : (is : List Item) (seat address code : ℕ) (f : Farm) → seat < own .rows → inHand (rowAt (f .rows) seat) ≡ 0
+      → Keeps own Q l is f → Then (Keeps own Q l) is (answered own seat address code f)
+  unfolding answered
+  answered-keeps is seat address code f b e k =
+      pick-case (Then (Keeps own Q l) is) (eqb code accepted) _ _
+      (λ _. speak-keeps is _ _ refl (put-keeps is seat (Active address (clockOf 0)) f b refl e k))
+      (λ _. then-then (Keeps own Q l) (Keeps own Q l) is _ (closed own seat) (speak-keeps is _ f refl k) (λ js q. closed-keeps js seat f b q))
+
+  asking-keeps : (is : List Item) (d : Decision) (f : Farm) → Keeps own Q l is f → Then (Keeps own Q l) is (asking own d f)
+  unfolding askedIf
+  asking-keeps is (Now code) f k = then-quiet (Keeps own Q l) is f k
+  asking-keeps is (Ask check) f k =
+      then-each (Keeps own Q l) is (askedIf own check) f k
+      (λ i js x q. pick-case (Then (Keeps own Q l) js) (asks check i (rowAt (x .rows) i)) _ _ (λ _. speak-keeps js _ x refl q)
+      (λ _. then-quiet (Keeps own Q l) js x q))
+
+  started-by-keeps : (is : List Item) (m : List ℕ) (f : Farm) → Keeps own Q l is f → Then (Keeps own Q l) is (startedBy own m f)
+  started-by-keeps is [] f k = then-quiet (Keeps own Q l) is (cleared f) (lines-keeps is f (f .line) _ _ k)
+  started-by-keeps is (head ∷ rest) f k =
+      asking-keeps is (socketRules own (f .rows) (wanted (rowAt (f .rows) head))) (cleared f) (lines-keeps is f (f .line) _ _ k)
+
+  pub started-keeps : (is : List Item) (f : Farm) → Keeps own Q l is f → Then (Keeps own Q l) is (started own f)
+  unfolding started
+  started-keeps is f k = started-by-keeps is (f .line) f k
+
+  pub advanced-keeps : (is : List Item) (rest : List ℕ) (f : Farm) → Keeps own Q l is f → Then (Keeps own Q l) is (advanced own rest f)
+  unfolding advanced
+  advanced-keeps is rest f k = started-keeps is (withLine f rest) (lines-keeps is f rest (f .clock) (f .marks) k)
+
+-- ---- the rows that a check asks are the farm's own
+
+-- the first row that passes a test
+pub record Picked (p : Row → Bool) (rows : List Row) (k i : ℕ) : Type 0 where
+  pub seat : ℕ
+  pub at : i ≡ k + seat
+  pub inside : seat < length rows
+  pub is : p (rowAt rows seat) ≡ true
+
+nothing-at : {i : ℕ} → Nothing ≡ At i → ⊥
+nothing-at e = let z : _≡_ {A = ℕ} 0 1 = cc in omega arith
+
+pub first-picked : (p : Row → Bool) (rows : List Row) (k i : ℕ) → firstAt p k rows ≡ At i → Picked p rows k i
+unfolding firstAt
+first-picked p [] k i e = absurd (nothing-at e)
+first-picked p (x ∷ rows) k i e =
+    split (p x) (λ t. record { seat = 0; at = here (rw t at e); inside = omega arith; is = t })
+    (λ t. let r = first-picked p rows (suc k) i (rw t at e) in
+    record { seat = suc (r .seat); at = omega (arith, r .at); inside = omega (arith, r .inside); is = r .is })
+  where
+    here : At k ≡ At i → i ≡ k + 0
+    here e = let z : k ≡ i = cc in omega arith
+
+active-open : (a : ℕ) (r : Row) (s : RowState) → r .state ≡ s → activeAs a r ≡ true → isOpen r ≡ true
+active-open a r Free e t = absurd (false≢true (rw e at t))
+active-open a r (Fresh c) e t = rw e refl
+active-open a r (Waiting q) e t = rw e refl
+active-open a r (Active b c) e t = rw e refl
+
+isActive-open : (r : Row) (s : RowState) → r .state ≡ s → isActive r ≡ true → isOpen r ≡ true
+isActive-open r Free e t = absurd (false≢true (rw e at t))
+isActive-open r (Fresh c) e t = rw e refl
+isActive-open r (Waiting q) e t = rw e refl
+isActive-open r (Active b c) e t = rw e refl
+
+module _ (own : FarmSheet) (f : Farm) (within : (i : ℕ) → own .rows ≤ i → isOpen (rowAt (f .rows) i) ≡ false) (a : ℕ) (check : Check) where
+  all-owned : Owned own (asks All)
+  all-owned i r t = inr (isActive-open r (r .state) refl t)
+
+  holder-owned : (x : Found) → firstAt (activeAs a) 0 (f .rows) ≡ x → byHolder own (f .rows) x ≡ Ask check → Owned own (asks check)
+  holder-owned (At s) p e =
+      λ i r t.
+      let q = first-picked (activeAs a) (f .rows) 0 s p in
+      let c : check ≡ One s = cc in
+      let u : eqb i s ≡ true = ap (λ (y : Check). asks y i r) (sym c) ∙ t in
+      let b = open-below own f within (q .seat) (active-open a (rowAt (f .rows) (q .seat)) (rowAt (f .rows) (q .seat) .state) refl (q .is)) in
+      inl (omega (arith, eqb-true i s u, q .at, b))
+  holder-owned Nothing p e =
+      pick-case (λ (d : Decision). d ≡ Ask check → Owned own (asks check)) (leb (own .quota) (countIf isActive (f .rows))) _ _
+      (λ _ d. let c : check ≡ All = cc in subst (λ (y : Check). Owned own (asks y)) (sym c) all-owned)
+      (λ _ d. absurd (let z : _≡_ {A = ℕ} 0 1 = cc in omega arith)) e
+
+  check-owned : socketRules own (f .rows) a ≡ Ask check → Owned own (asks check)
+  unfolding socketRules
+  check-owned e = holder-owned (firstAt (activeAs a) 0 (f .rows)) refl e
+
+run-out : (f : Farm) (d : Decision) (check : Check) → verdictBy f d ≡ RunOut check → d ≡ Ask check
+run-out f (Now code) check e = absurd (let z : _≡_ {A = ℕ} 0 1 = cc in omega arith)
+run-out f (Ask c) check e =
+    pick-case (λ (v : HeadVerdict). v ≡ RunOut check → Ask c ≡ Ask check) (allAnswered c (f .marks) (f .rows)) _ _
+    (λ _ z. absurd (let y : _≡_ {A = ℕ} 0 1 = cc in omega arith))
+    (λ _. pick-case (λ (v : HeadVerdict). v ≡ RunOut check → Ask c ≡ Ask check) (leb checkLimit (f .clock .ticks)) _ _
+    (λ _ z. (cc)) (λ _ z. absurd (let y : _≡_ {A = ℕ} 0 1 = cc in omega arith))) e
+
+silent-owned : (own : FarmSheet) (check : Check) (marks : List Bool) → Owned own (asks check) → Owned own (isSilent check marks)
+silent-owned own check marks o i r =
+    pick-case (λ (b : Bool). b ≡ true → (i < own .rows) ⊎ (isOpen r ≡ true)) (isMarked marks i) _ _ (λ _ t. absurd (false≢true t)) (λ _ t. o i r t)
+
+run-out-owned : (own : FarmSheet) (f : Farm) → ((i : ℕ) → own .rows ≤ i → isOpen (rowAt (f .rows) i) ≡ false) → (head : ℕ) (check : Check)
+    → headVerdict own f head ≡ RunOut check → Owned own (isSilent check (f .marks))
+unfolding headVerdict
+run-out-owned own f w head check e =
+    silent-owned own check (f .marks)
+    (check-owned own f w (wanted (rowAt (f .rows) head)) check (run-out f (socketRules own (f .rows) (wanted (rowAt (f .rows) head))) check e))
 
 -- ---- settling
 
-pub tail-keeps : {d i : ℕ} {l : List ℕ} {f : Farm} → Keeps d (i ∷ l) f → Keeps d l f
-tail-keeps k = record { differs = k .differs; clear = clear-rest (k .clear) }
+module _ {own : FarmSheet} {Q : List Item → Farm → Type 0} (laws : Laws own Q) where
+  tail-keeps : {i : ℕ} {l : List ℕ} (is : List Item) (f : Farm) → Keeps own Q (i ∷ l) is f → Keeps own Q l is f
+  tail-keeps is f k = record { holds = k .holds; clear = clear-rest (k .clear); within = k .within }
 
-pub serve-keeps : {d : ℕ} (own : FarmSheet) (head : ℕ) (rest : List ℕ) (f : Farm) (v : HeadVerdict) (g : Farm → Done)
-    → ((x : Farm) → Keeps d rest x → Differs d (g x .farm)) → Keeps d (head ∷ rest) f → Differs d (serve own head rest f v g .farm)
-unfolding andThen
-serve-keeps own head rest f Pending g ih k = k .differs
-serve-keeps own head rest f (Answer code) g ih k =
-    ih _
-    (tail-keeps
-    (advanced-keeps own rest _ (answered-keeps own head (wanted (rowAt (f .rows) head)) code f (clear-first (k .clear)) k)))
-serve-keeps own head rest f (RunOut check) g ih k =
-    let c = closings-keeps own (isSilent check (f .marks)) f k in
-    ih _
-    (tail-keeps (advanced-keeps own rest _ (answered-keeps own head (wanted (rowAt (f .rows) head)) accepted _ (clear-first (c .clear)) c)))
+  -- the head has its answer, and the line goes on
+  goes-on : (head : ℕ) (rest : List ℕ) (is : List Item) (d : Done) (g : Farm → Done)
+      → ((js : List Item) (x : Farm) → Keeps own Q rest js x → Then Q js (g x)) → Then (Keeps own Q (head ∷ rest)) is d
+      → Then Q is (andThen (andThen d (advanced own rest)) g)
+  goes-on head rest is d g ih k =
+      then-then (Keeps own Q (head ∷ rest)) Q is (andThen d (advanced own rest)) g
+      (then-then (Keeps own Q (head ∷ rest)) (Keeps own Q (head ∷ rest)) is d (advanced own rest) k (λ js x. advanced-keeps laws js rest (d .farm) x))
+      (λ js x. ih js _ (tail-keeps js _ x))
 
-pub settle-keeps : {d : ℕ} (own : FarmSheet) (l : List ℕ) (f : Farm) → Keeps d l f → Differs d (settleLine own l f .farm)
-unfolding settleLine
-settle-keeps own [] f k = k .differs
-settle-keeps own (head ∷ rest) f k =
-    serve-keeps own head rest f (headVerdict own f head) (settleLine own rest) (λ x q. settle-keeps own rest x q) k
+  serve-keeps : (head : ℕ) (rest : List ℕ) (is : List Item) (f : Farm) (v : HeadVerdict) (g : Farm → Done) → headVerdict own f head ≡ v
+      → ((js : List Item) (x : Farm) → Keeps own Q rest js x → Then Q js (g x)) → Keeps own Q (head ∷ rest) is f → Then Q is (serve own head rest f v g)
+  serve-keeps head rest is f Pending g e ih k = then-quiet Q is f (k .holds)
+  serve-keeps head rest is f (Answer code) g e ih k =
+      goes-on head rest is (answered own head (wanted (rowAt (f .rows) head)) code f) g ih
+      (answered-keeps laws is head (wanted (rowAt (f .rows) head)) code f (clear-below (k .clear)) (clear-first (k .clear)) k)
+  serve-keeps head rest is f (RunOut check) g e ih k =
+      let c = closedWhere own (isSilent check (f .marks)) f in
+      let a : Farm → Done = answered own head (wanted (rowAt (f .rows) head)) accepted in
+      goes-on head rest is (andThen c a) g ih
+      (then-then (Keeps own Q (head ∷ rest)) (Keeps own Q (head ∷ rest)) is c a
+      (closings-keeps laws is (isSilent check (f .marks)) f (run-out-owned own f (k .within) head check e) k)
+      (λ js q. answered-keeps laws js head (wanted (rowAt (f .rows) head)) accepted (c .farm) (clear-below (q .clear)) (clear-first (q .clear)) q))
 
--- ---- joining, leaving, marking; the line is the farm's own
-
-abbrev pub Ready : ℕ → Farm → Type 0
-Ready d f = Keeps d (f .line) f
-
-pub joined-keeps : {d : ℕ} (own : FarmSheet) (seat : ℕ) (q : Request) (f : Farm) → inHand (rowAt (f .rows) seat) ≡ 0 → Ready d f
-    → Ready d (joined own seat q f .farm)
-unfolding joined
-joined-keeps {d} own seat q f h k =
-    pick-case (λ (x : Done). Ready d (x .farm)) (isEmpty (f .line)) _ _ (λ _. rw (started-farm own g) (record { differs = k′ .differs; clear = k′ .clear })) (λ _. k′)
-  where
-    g : Farm
-    g = withLine (withRow f seat (waitingRow q)) (f .line ++ (seat ∷ []))
-
-    k′ : Ready d g
-    k′ =
-        let p = put-keeps seat (waitingRow q) f refl h k in
-        record { differs = p .differs; clear = clear-append seat (row-set (f .rows) seat seat (waitingRow q) (λ y. inHand y ≡ 0) (λ _ _. refl) h) (p .clear) }
-
-left-by-keeps : {d : ℕ} (own : FarmSheet) (seat : ℕ) (l : List ℕ) (f : Farm) → f .line ≡ l → Keeps d l f → Ready d (leftBy own seat l f .farm)
-left-by-keeps {d} own seat [] f e k = subst (λ (l : List ℕ). Keeps d l f) (sym e) k
-left-by-keeps {d} own seat (head ∷ rest) f e k =
-    pick-case (λ (x : Done). Ready d (x .farm)) (eqb seat head) _ _
-    (λ _. rw (advanced-farm own rest f) (record { differs = k .differs; clear = clear-rest (k .clear) }))
-    (λ _. record { differs = k .differs; clear = next (clear-first (k .clear)) (clear-without seat (clear-rest (k .clear))) })
-
-pub left-keeps : {d : ℕ} (own : FarmSheet) (seat : ℕ) (f : Farm) → Ready d f → Ready d (left own seat f .farm)
-unfolding left
-left-keeps own seat f k = left-by-keeps own seat (f .line) f refl k
-
-pub marked-keeps : {d : ℕ} (own : FarmSheet) (seat address : ℕ) (f : Farm) → Ready d f → Ready d (marked own seat address f)
-unfolding marked
-marked-keeps {d} own seat address f k =
-    pick-case (Ready d) (both (activeAs address (rowAt (f .rows) seat)) (isAsked own f seat)) _ _
-    (λ _. record { differs = k .differs; clear = k .clear }) (λ _. k)
-
--- a closing and an answer leave the line as it is
-pub closed-ready : {d : ℕ} (own : FarmSheet) (seat : ℕ) (f : Farm) → Ready d f → Ready d (closed own seat f .farm)
-closed-ready {d} own seat f k = subst (λ (l : List ℕ). Keeps d l (closed own seat f .farm)) (sym (closed-line own seat f)) (closed-keeps own seat f k)
-
-pub answered-ready : {d : ℕ} (own : FarmSheet) (seat address code : ℕ) (f : Farm) → inHand (rowAt (f .rows) seat) ≡ 0 → Ready d f
-    → Ready d (answered own seat address code f .farm)
-unfolding answered andThen
-answered-ready {d} own seat address code f h k =
-    pick-case (λ (x : Done). Ready d (x .farm)) (eqb code accepted) _ _ (λ _. put-keeps seat (activeRow address) f refl h k)
-    (λ _. closed-ready own seat f k)
-
-pub closings-ready : {d : ℕ} (own : FarmSheet) (test : ℕ → Row → Bool) (f : Farm) → Ready d f → Ready d (closedWhere own test f .farm)
-closings-ready {d} own test f k = closings-keep own test (Ready d) f k (λ i x _ q. closed-ready own i x q)
+  pub settle-keeps : (l : List ℕ) (is : List Item) (f : Farm) → Keeps own Q l is f → Then Q is (settleLine own l f)
+  unfolding settleLine
+  settle-keeps [] is f k = then-quiet Q is f (k .holds)
+  settle-keeps (head ∷ rest) is f k =
+      serve-keeps head rest is f (headVerdict own f head) (settleLine own rest) refl (λ js x q. settle-keeps rest js x q) k
