@@ -128,6 +128,13 @@ takes-balance s (byte ∷ bytes) h = go (feed s byte) (fed-at (s .place) (s .hea
     go (more t) k ih = omega (arith, k .0, ih t (k .1))
     go (ends e t) k ih = k
 
+-- the call ends with a header that closes
+abbrev pub closing : Event → Bool
+closing inputEnded = false
+closing (wrong fault) = closes fault
+closing (finished kind size) = false
+closing (skipped size) = false
+
 -- a message that is finished, or skipped, leaves the row between two messages
 abbrev pub Rests : Event → Stream → Type 0
 Rests inputEnded s = Unit {0}

@@ -5,4 +5,9 @@ pub mod Split
 pub mod Balance
 pub mod MeterFarm
 pub mod MeterFarmLine
+pub mod MeterFarmMove
+pub mod MeterFarmEven
+pub mod MeterHistory
+pub mod MeterFarmCut
+pub mod MeterFarmStream
 pub mod Try
