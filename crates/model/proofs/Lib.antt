@@ -10,4 +10,5 @@ pub mod MeterFarmEven
 pub mod MeterHistory
 pub mod MeterFarmCut
 pub mod MeterFarmStream
+pub mod MeterFarmLog
 pub mod Try
