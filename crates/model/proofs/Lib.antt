@@ -11,4 +11,5 @@ pub mod MeterHistory
 pub mod MeterFarmCut
 pub mod MeterFarmStream
 pub mod MeterFarmLog
+pub mod MeterFarmNote
 pub mod Try

@@ -87,13 +87,13 @@ tied-hand (Waiting q) p head now h = stands-hand h
 tied-hand (Active a c) p head now h = stands-hand h
 
 -- with nothing in hand, a row is between two messages
-tied-still : (s : RowState) (p : Place) (head now : List ℕ) → TiedBy s p head now → inHandBy s p ≡ 0 → Stands now boundary noHead
+pub tied-still : (s : RowState) (p : Place) (head now : List ℕ) → TiedBy s p head now → inHandBy s p ≡ 0 → Stands now boundary noHead
 tied-still Free p head now e z = subst (λ (l : List ℕ). Stands l boundary noHead) (sym e) (stands-rested [] whole-none)
 tied-still (Fresh c) p head now h z = stands-still p h z
 tied-still (Waiting q) p head now h z = stands-still p h z
 tied-still (Active a c) p head now h z = stands-still p h z
 
-tied-older : (s : RowState) (p : Place) (head now : List ℕ) → TiedBy s p head now → TiedBy (olderState s) p head now
+pub tied-older : (s : RowState) (p : Place) (head now : List ℕ) → TiedBy s p head now → TiedBy (olderState s) p head now
 tied-older Free p head now h = h
 tied-older (Fresh c) p head now h = h
 tied-older (Waiting q) p head now h = h
@@ -183,7 +183,7 @@ filed-lost l n e = omega arith
 
 -- a row closes whose bytes in hand are those of its log; the other rows stand where their logs say
 module _ (own : FarmSheet) (T : ℕ) (is : List Item) (L : ℕ → Log) (seat : ℕ) (b : seat < own .rows) (f : Farm) where
-  closed-counted : finishedIn (after own is L seat .now) + inHand (rowAt (f .rows) seat) ≡ length (after own is L seat .now)
+  pub closed-counted : finishedIn (after own is L seat .now) + inHand (rowAt (f .rows) seat) ≡ length (after own is L seat .now)
       → Counted own T (after own is L) f → Counted own T (after own (is ++ closed own seat f .items) L) (closed own seat f .farm)
   closed-counted h c =
       record {
@@ -206,7 +206,7 @@ module _ (own : FarmSheet) (T : ℕ) (is : List Item) (L : ℕ → Log) (seat : 
           subst (λ (k : ℕ). finishedOn (after own (is ++ closed own seat f .items) L k) ≡ finishedOn (after own is L k)) (sym e)
           (ap finishedOn (closes-this own is seat f (L seat)) ∙ filed-finished (after own is L seat))
 
-  closed-tied : ((i : ℕ) → i < own .rows → (i ≡ seat → ⊥) → Tied (rowAt (f .rows) i) (after own is L i))
+  pub closed-tied : ((i : ℕ) → i < own .rows → (i ≡ seat → ⊥) → Tied (rowAt (f .rows) i) (after own is L i))
       → (i : ℕ) → i < own .rows → Tied (rowAt (closed own seat f .farm .rows) i) (after own (is ++ closed own seat f .items) L i)
   closed-tied h i l =
       split (eqb i seat) (λ t. at-seat i (eqb-true i seat t))
@@ -218,7 +218,7 @@ module _ (own : FarmSheet) (T : ℕ) (is : List Item) (L : ℕ → Log) (seat : 
           subst (λ (k : ℕ). Tied (rowAt (closed own seat f .farm .rows) k) (after own (is ++ closed own seat f .items) L k)) (sym e)
           (rw (closed-rows own seat f, row-freed (f .rows) seat) (ap (λ (x : Log). x .now) (closes-this own is seat f (L seat))))
 
-  closed-logged : Logged own T (after own is L) f → Logged own T (after own (is ++ closed own seat f .items) L) (closed own seat f .farm)
+  pub closed-logged : Logged own T (after own is L) f → Logged own T (after own (is ++ closed own seat f .items) L) (closed own seat f .farm)
   closed-logged h =
       record {
         counted =
