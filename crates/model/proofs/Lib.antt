@@ -12,4 +12,5 @@ pub mod MeterFarmCut
 pub mod MeterFarmStream
 pub mod MeterFarmLog
 pub mod MeterFarmNote
+pub mod MeterFarmTold
 pub mod Try

@@ -28,7 +28,7 @@ use Rattle.model.proofs.MeterFarmLog.{sum-same, sum-one, TiedBy, Tied, 
 
 -- ---- everything but the taking of bytes
 
-logged-laws : (own : FarmSheet) (T : ℕ) (L : ℕ → Log) → Laws own (λ is f. Logged own T (after own is L) f)
+pub logged-laws : (own : FarmSheet) (T : ℕ) (L : ℕ → Log) → Laws own (λ is f. Logged own T (after own is L) f)
 logged-laws own T L =
     record {
       closes = λ is seat f b h. closed-logged own T is L seat b f h;
@@ -173,7 +173,7 @@ module _ {own : FarmSheet} {f : Farm} (good : Good own f) (seat : ℕ) (b : seat
       subst (λ (x : List ℕ). finishedIn x + inHand (rowAt (heard seat (takes s input) f .rows) seat) ≡ length x) (sym now-is)
       (omega (arith, a, lands-hand (takes s input .event) now (takes s input .stream) lands))
 
-  hears-logged : Hears own (λ is x. Logged own (T + takenBy seat room input f .count) (after own is M) x) seat (takenBy seat room input f) f
+  pub hears-logged : Hears own (λ is x. Logged own (T + takenBy seat room input f .count) (after own is M) x) seat (takenBy seat room input f) f
   unfolding s filedBy
   hears-logged =
       record {
