@@ -7,10 +7,11 @@ pub mod MeterFarm
 pub mod MeterFarmLine
 pub mod MeterFarmMove
 pub mod MeterFarmEven
-pub mod MeterHistory
+pub mod MeterFarmSlot
 pub mod MeterFarmCut
 pub mod MeterFarmStream
 pub mod MeterFarmLog
 pub mod MeterFarmNote
 pub mod MeterFarmTold
+pub mod MeterHistory
 pub mod Try

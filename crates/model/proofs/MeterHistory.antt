@@ -22,51 +22,8 @@ use Rattle.model.specs.Table.{Table, noHeld, slot, Lent, leastOutput, as
 use Rattle.model.specs.History.{Made, fresh, stepOf, run}
 use Rattle.model.specs.Meter.{hands, Differs, Balanced}
 use Rattle.model.proofs.Cases.{pick-case, unless-case}
+use Rattle.model.proofs.MeterFarmSlot.{step-slot}
 use Rattle.model.proofs.MeterFarmEven.{move-differs, tick-differs}
-
--- ---- what a call does to one slot of the table
-
-slot-set : (P : Held → Type 0) (t : Table) (f g : ℕ) (h : Held) → (f ≡ g → P h) → P (slot t g) → P (slot (set t f h) g)
-slot-set P [] f g h a b = b
-slot-set P (x ∷ t) zero zero h a b = a refl
-slot-set P (x ∷ t) zero (suc g) h a b = b
-slot-set P (x ∷ t) (suc f) zero h a b = b
-slot-set P (x ∷ t) (suc f) (suc g) h a b = slot-set P t f g h (λ e. a (ap suc e)) b
-
-slot-tick : (P : Held → Type 0) (s : List ℕ) (k : ℕ) (t : Table) (g : ℕ) → P (heldBy (slot t g) (slotTick s (k + g) (slot t g))) → P (slot t g)
-    → P (slot (tickTable s k t) g)
-slot-tick P s k [] g a b = b
-slot-tick P s k (x ∷ t) zero a b = subst (λ (n : ℕ). P (heldBy x (slotTick s n x))) (add-zero k) a
-slot-tick P s k (x ∷ t) (suc g) a b =
-    slot-tick P s (suc k) t g (subst (λ (n : ℕ). P (heldBy (slot t g) (slotTick s n (slot t g)))) (turn k g) a) b
-  where
-    turn : (a b : ℕ) → a + suc b ≡ suc a + b
-    turn a b = omega arith
-
--- what the farm's own calls and the ticks keep, every call keeps
-module _ (P : Held → Type 0) (s : List ℕ) (g : ℕ) (t : Table) (old : P (slot t g))
-    (moves : (c : Own) → P (heldBy (slot t g) (move (slotSheet s g) (slot t g) c))) (ticks : P (heldBy (slot t g) (slotTick s g (slot t g)))) where
-  moved-slot : (f : ℕ) (m : Move) → (f ≡ g → P (heldBy (slot t f) m)) → P (slot (tableOf t (movedTo t f m)) g)
-  moved-slot f (refused n) a = old
-  moved-slot f (gave x) a = slot-set P t f g (x .held) a old
-
-  called-slot : (w : Whose) → P (slot (tableOf t (called s t w)) g)
-  called-slot (nobodys n) = old
-  called-slot (farms f c) =
-      moved-slot f (move (slotSheet s f) (slot t f) c)
-      (λ e. subst (λ (k : ℕ). P (heldBy (slot t k) (move (slotSheet s k) (slot t k) c))) (sym e) (moves c))
-  called-slot everyones = slot-tick P s 0 t g (subst (λ (k : ℕ). P (heldBy (slot t g) (slotTick s k (slot t g)))) (add-left g) ticks) old
-    where
-      add-left : (n : ℕ) → n ≡ 0 + n
-      add-left n = omega arith
-
-  pub step-slot : (m : Made) → P (slot (tableOf t (stepOf s t m)) g)
-  unfolding step
-  step-slot m =
-      unless-case (λ o. P (slot (tableOf t o) g)) (goodSheet s) _ _ (λ _. old)
-      (λ _. unless-case (λ o. P (slot (tableOf t o) g)) (leb leastOutput (m .lent .output)) _ _ (λ _. old)
-      (λ _. unless-case (λ o. P (slot (tableOf t o) g)) (eqb (m .lent .assembling) assemblingSize) _ _ (λ _. old)
-      (λ _. unless-case (λ o. P (slot (tableOf t o) g)) (goodTable s t) _ _ (λ _. old) (λ _. called-slot (whose s (m .call))))))
 
 -- ---- the difference over a history
 
