@@ -13,5 +13,6 @@ pub mod MeterFarmStream
 pub mod MeterFarmLog
 pub mod MeterFarmNote
 pub mod MeterFarmTold
+pub mod MeterFarmTable
 pub mod MeterHistory
 pub mod Try

@@ -85,6 +85,12 @@ tick-quiet own f good = tick-keeps (quiet-laws own) f good (quiet-none own)
 
 -- ---- a farm's own call
 
+pub took-none : (l : Log) → took [] l ≡ l
+took-none l = ap (λ (b : List ℕ). logOf b (l .ended)) (append-nil (l .now))
+  where
+    logOf : List ℕ → List (List ℕ) → Log
+    logOf a b = record { now = a; ended = b }
+
 module _ (own : FarmSheet) (T : ℕ) (L : ℕ → Log) where
   -- the logs before the closings: a connect that opens the row begins a log, then come the bytes taken
   abbrev pub based : Call → ℕ → ℕ → ℕ → Log
@@ -103,12 +109,6 @@ module _ (own : FarmSheet) (T : ℕ) (L : ℕ → Log) where
       subst (λ (k : ℕ). Logged own k (after own (x .items) (based call (x .row) (x .took))) (x .held .farm)) (sym (ap (λ (k : ℕ). T + k) (z (x .took)) ∙ add-zero T))
       (logged-same own T (after own (x .items) L) (after own (x .items) (based call (x .row) (x .took))) (x .held .farm)
       (λ i _. ap (filedBy (own .first + i) (x .items)) (e (x .row) (x .took) i)) q)
-
-  took-none : (l : Log) → took [] l ≡ l
-  took-none l = ap (λ (b : List ℕ). logOf b (l .ended)) (append-nil (l .now))
-    where
-      logOf : List ℕ → List (List ℕ) → Log
-      logOf a b = record { now = a; ended = b }
 
   start-logged : (f : Farm) → Logged own T L f → Logged own T (after own [] L) f
   unfolding filedBy
