@@ -1,13 +1,13 @@
 -- What a call on the table does to one slot of it.
 -- Assumes nothing.
-use Prim.Native.Nat.{ℕ, zero, suc, _+_}
+use Prim.Native.Nat.{ℕ, zero, suc, _+_, _<_}
 use mathlib.Core.Path.{_≡_, refl, sym, ap, subst}
 use mathlib.Core.Bool.{Bool, true, false}
 use mathlib.Core.List.{List, [], _∷_}
-use native.Mathlib.Nat.{add-zero}
+use native.Mathlib.Nat.{add-zero, not-suc-le-zero}
 use native.Mathlib.Omega.{arith}
 use lib.Dec.{eqb, leb}
-use lib.ListN.{getD, set}
+use lib.ListN.{getD, set, length, length-set}
 use Rattle.octets.specs.Choice.{unless}
 use Rattle.sheet.specs.Test.{goodSheet}
 use Rattle.model.specs.FarmSheet.{slotSheet}
@@ -42,6 +42,34 @@ slot-tick P s k (x ∷ t) (suc g) a b =
   where
     turn : (a b : ℕ) → a + suc b ≡ suc a + b
     turn a b = omega arith
+
+-- the same where the table has the slot
+pub slot-ticked : (P : Held → Type 0) (s : List ℕ) (k : ℕ) (t : Table) (g : ℕ) → g < length t → P (heldBy (slot t g) (slotTick s (k + g) (slot t g)))
+    → P (slot (tickTable s k t) g)
+slot-ticked P s k [] g l a = absurd (not-suc-le-zero l)
+slot-ticked P s k (x ∷ t) zero l a = subst (λ (n : ℕ). P (heldBy x (slotTick s n x))) (add-zero k) a
+slot-ticked P s k (x ∷ t) (suc g) l a =
+    slot-ticked P s (suc k) t g (omega arith) (subst (λ (n : ℕ). P (heldBy (slot t g) (slotTick s n (slot t g)))) (turn k g) a)
+  where
+    turn : (a b : ℕ) → a + suc b ≡ suc a + b
+    turn a b = omega arith
+
+-- no call changes how many slots there are
+tick-length : (s : List ℕ) (k : ℕ) (t : Table) → length (tickTable s k t) ≡ length t
+tick-length s k [] = refl
+tick-length s k (x ∷ t) = ap suc (tick-length s (suc k) t)
+
+moved-length : (t : Table) (f : ℕ) (m : Move) → length (tableOf t (movedTo t f m)) ≡ length t
+moved-length t f (refused n) = refl
+moved-length t f (gave x) = length-set t f (x .held)
+
+called-length : (s : List ℕ) (t : Table) (w : Whose) → length (tableOf t (called s t w)) ≡ length t
+called-length s t (nobodys n) = refl
+called-length s t (farms f c) = moved-length t f (move (slotSheet s f) (slot t f) c)
+called-length s t everyones = tick-length s 0 t
+
+pub step-length : (s : List ℕ) (t : Table) (m : Made) → length (tableOf t (stepOf s t m)) ≡ length t
+step-length s t m = step-cases (λ (o : Outcome). length (tableOf t o) ≡ length t) s t m (λ _. refl) (called-length s t (whose s (m .call)))
 
 -- what the farm's own calls and the ticks keep, every call keeps
 module _ (P : Held → Type 0) (s : List ℕ) (g : ℕ) (t : Table) (old : P (slot t g))

@@ -33,7 +33,7 @@ use Rattle.model.proofs.Cases.{pick-case, split}
 use Rattle.model.proofs.MeterFarmMove.{Got, opens-at}
 use Rattle.model.proofs.MeterFarmLog.{Logged, logged-same, after, filed-append}
 use Rattle.model.proofs.MeterFarmTold.{Foreign, Quiet, move-quiet, tick-quiet, Told, took-none, told-peer, told-link, told-datagram, told-message, told-connect, told-bytes, told-tick}
-use Rattle.model.proofs.MeterFarmSlot.{step-cases, slot-set, slot-tick}
+use Rattle.model.proofs.MeterFarmSlot.{step-cases, slot-set, slot-ticked}
 
 -- ---- the rows of two farms differ
 
@@ -74,14 +74,59 @@ connect-row own h x e = go (firstAt isFree 0 (take (own .rows) (h .farm .rows)))
     go Nothing p q = absurd (let z : _≡_ {A = ℕ} 0 1 = cc in omega arith)
     go (At seat) p q = (seat, opens-at own (h .farm) seat p .below, sym (ap rowIn q))
 
+-- ---- a tick closes on farm g's rows what farm g closes
+
+filed-none : (r : ℕ) (x : Log) → filedBy r [] x ≡ x
+unfolding filedBy
+filed-none r x = refl
+
+module _ (s : List ℕ) (k : ℕ) (h : Held) (u : Table) (goods : (f : ℕ) → k + f < farmCount s → Good (slotSheet s (k + f)) (slot (h ∷ u) f .farm)) where
+  first-good : k < farmCount s → Good (slotSheet s k) (h .farm)
+  first-good b = subst (λ (f : ℕ). Good (slotSheet s f) (h .farm)) (add-zero k) (goods 0 (omega arith))
+
+  rest-good : (f : ℕ) → suc k + f < farmCount s → Good (slotSheet s (suc k + f)) (slot u f .farm)
+  rest-good f b = subst (λ (n : ℕ). Good (slotSheet s n) (slot u f .farm)) (turn k f) (goods (suc f) (omega arith))
+    where
+      turn : (a b : ℕ) → a + suc b ≡ suc a + b
+      turn a b = omega arith
+
+module _ (s : List ℕ) (g : ℕ) (isFarm : g < farmCount s) (i : ℕ) (l : i < slotSheet s g .rows) where
+  slot-quiet : (f : ℕ) (h : Held) → (f < farmCount s → Good (slotSheet s f) (h .farm)) → (f ≡ g → ⊥) → (x : Log)
+      → filedBy (slotSheet s g .first + i) (itemsBy (slotTick s f h)) x ≡ x
+  unfolding tickMove filedBy
+  slot-quiet f h good n x =
+      pick-case (λ (m : Move). filedBy (slotSheet s g .first + i) (itemsBy m) x ≡ x) (ltb f (farmCount s)) _ _
+      (λ u. tick-quiet (slotSheet s f) (h .farm) (good (ltb-true f (farmCount s) u)) (slotSheet s g .first + i)
+      (foreign s f g (ltb-true f (farmCount s) u) isFarm n i l) x)
+      (λ _. refl)
+
+  -- the farms from k on, all after farm g
+  rest-quiet : (k : ℕ) (u : Table) → g < k → ((f : ℕ) → k + f < farmCount s → Good (slotSheet s (k + f)) (slot u f .farm)) → (x : Log)
+      → filedBy (slotSheet s g .first + i) (tickItems s k u) x ≡ x
+  rest-quiet k [] b goods x = filed-none (slotSheet s g .first + i) x
+  rest-quiet k (h ∷ u) b goods x =
+      filed-append (slotSheet s g .first + i) (itemsBy (slotTick s k h)) (tickItems s (suc k) u) x ∙
+      ap (filedBy (slotSheet s g .first + i) (tickItems s (suc k) u)) (slot-quiet k h (first-good s k h u goods) (λ e. omega arith) x) ∙
+      rest-quiet (suc k) u (omega arith) (rest-good s k h u goods) x
+
+  -- farm g is the one with the place j among the farms from k on
+  tick-filed : (k : ℕ) (u : Table) (j : ℕ) → k + j ≡ g → j < length u → ((f : ℕ) → k + f < farmCount s → Good (slotSheet s (k + f)) (slot u f .farm))
+      → (x : Log) → filedBy (slotSheet s g .first + i) (tickItems s k u) x ≡ filedBy (slotSheet s g .first + i) (itemsBy (slotTick s g (slot u j))) x
+  tick-filed k [] j e b goods x = absurd (not-suc-le-zero b)
+  tick-filed k (h ∷ u) zero e b goods x =
+      filed-append (slotSheet s g .first + i) (itemsBy (slotTick s k h)) (tickItems s (suc k) u) x ∙
+      rest-quiet (suc k) u (omega arith) (rest-good s k h u goods) _ ∙
+      ap (λ (f : ℕ). filedBy (slotSheet s g .first + i) (itemsBy (slotTick s f h)) x) (sym (add-zero k) ∙ e)
+  tick-filed k (h ∷ u) (suc j) e b goods x =
+      filed-append (slotSheet s g .first + i) (itemsBy (slotTick s k h)) (tickItems s (suc k) u) x ∙
+      ap (filedBy (slotSheet s g .first + i) (tickItems s (suc k) u)) (slot-quiet k h (first-good s k h u goods) (λ z. omega arith) x) ∙
+      tick-filed (suc k) u j (omega arith) (omega arith) (rest-good s k h u goods) x
+
 -- ---- one call, as farm g has it
 
 module _ (s : List ℕ) (g : ℕ) (isFarm : g < farmCount s) (t : Table) (inside : g < length t)
     (goods : (f : ℕ) → f < farmCount s → Good (slotSheet s f) (slot t f .farm)) (T : ℕ) (L : ℕ → Log)
     (logged : Logged (slotSheet s g) T L (slot t g .farm)) where
-  own : FarmSheet
-  own = slotSheet s g
-
   abbrev Comes : Call → Outcome → Type 0
   Comes call o =
       Logged (slotSheet s g) (T + takenBy (slotSheet s g) call (saidBy o)) (λ i. notedBy (slotSheet s g .first + i) call (saidBy o) (L i))
@@ -185,3 +230,50 @@ module _ (s : List ℕ) (g : ℕ) (isFarm : g < farmCount s) (t : Table) (inside
       → Comes call (called s t (pick (ltb f (farmCount s)) (farms f c) (nobodys 5)))
   if-farm call f c k =
       pick-case (λ (w : Whose). Comes call (called s t w)) (ltb f (farmCount s)) _ _ (λ u. k (ltb-true f (farmCount s) u)) (λ _. refused-comes call 5)
+
+  ticks-as : slotTick s g (slot t g) ≡ tickMove (slotSheet s g) (slot t g)
+  ticks-as = rw (lt-ltb g (farmCount s) isFarm) refl
+
+  ticked-logs : (i : ℕ) → i < slotSheet s g .rows
+      → notedBy (slotSheet s g .first + i) tick (gives noRow 0 (tickItems s 0 t)) (L i) ≡
+      after (slotSheet s g) (ticked (slotSheet s g) (slot t g .farm) .items) L i
+  unfolding tickMove
+  ticked-logs i l =
+      ap (filedBy (slotSheet s g .first + i) (tickItems s 0 t)) (took-none (L i)) ∙
+      tick-filed s g isFarm i l 0 t g (zero-add g) inside
+      (λ f b. subst (λ (k : ℕ). Good (slotSheet s k) (slot t f .farm)) (sym (zero-add f)) (goods f (omega arith))) (L i) ∙
+      ap (λ (m : Move). filedBy (slotSheet s g .first + i) (itemsBy m) (L i)) ticks-as
+
+  tick-comes : Comes tick (called s t everyones)
+  unfolding tickMove
+  tick-comes =
+      slot-ticked
+      (λ (y : Held). Logged (slotSheet s g) (T + 0) (λ i. notedBy (slotSheet s g .first + i) tick (gives noRow 0 (tickItems s 0 t)) (L i)) (y .farm))
+      s 0 t g inside
+      (rw (zero-add g, ticks-as, add-zero T)
+      (logged-same (slotSheet s g) T (after (slotSheet s g) (ticked (slotSheet s g) (slot t g .farm) .items) L) _ (ticked (slotSheet s g) (slot t g .farm) .farm)
+      ticked-logs (told-tick (slotSheet s g) T L (slot t g .farm) (goods g isFarm) logged)))
+
+  -- ANY CALL: the farm's meters stay what the logs of its rows say
+  call-comes : (call : Call) → Comes call (called s t (whose s call))
+  unfolding whose
+  call-comes (connectTo f) = if-farm (connectTo f) f connect (connect-comes f)
+  call-comes (bytesFrom row input) = owner-comes row input (ownerOf s row) refl
+  call-comes (peerClosedOn row) = peer-comes row (ownerOf s row) refl
+  call-comes (linkLostOf f) =
+      if-farm (linkLostOf f) f linkLost
+      (named-comes (linkLostOf f) linkLost f (λ _. refl) (λ _ _. refl) refl (told-link (slotSheet s g) T L (slot t g) (goods g isFarm) logged f))
+  call-comes tick = tick-comes
+  call-comes (datagramTo f input) =
+      if-farm (datagramTo f input) f (datagram input)
+      (named-comes (datagramTo f input) (datagram input) f (λ _. refl) (λ _ _. refl) refl
+      (told-datagram (slotSheet s g) T L (slot t g) (goods g isFarm) logged f input))
+  call-comes (messageFrom f from to user) =
+      if-farm (messageFrom f from to user) f (controller from to user)
+      (named-comes (messageFrom f from to user) (controller from to user) f (λ _. refl) (λ _ _. refl) refl
+      (told-message (slotSheet s g) T L (slot t g) (goods g isFarm) logged f from to user))
+
+  pub step-comes : (m : Made)
+      → Logged (slotSheet s g) (T + takenBy (slotSheet s g) (m .call) (saidBy (stepOf s t m)))
+      (λ i. notedBy (slotSheet s g .first + i) (m .call) (saidBy (stepOf s t m)) (L i)) (slot (tableOf t (stepOf s t m)) g .farm)
+  step-comes m = step-cases (Comes (m .call)) s t m (refused-comes (m .call)) (call-comes (m .call))
