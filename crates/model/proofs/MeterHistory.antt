@@ -4,7 +4,7 @@ use Prim.Native.Nat.{ℕ, zero, suc, _+_, _≤_, _<_}
 use mathlib.Core.Path.{_≡_, refl, sym, ap, subst, _∙_}
 use mathlib.Core.Bool.{Bool, true, false}
 use mathlib.Core.List.{List, [], _∷_}
-use native.Mathlib.Nat.{add-zero, not-suc-le-zero}
+use native.Mathlib.Nat.{add-zero, zero-add, add-assoc}
 use native.Mathlib.Omega.{arith}
 use lib.Dec.{eqb, leb, ltb}
 use lib.ListN.{getD, set, length, replicate}
@@ -14,15 +14,17 @@ use Rattle.kinds.specs.declared.Row.{Row}
 use Rattle.sheet.specs.Sheet.{farmCount}
 use Rattle.sheet.specs.Test.{goodSheet}
 use Rattle.model.specs.FarmSheet.{FarmSheet, slotSheet}
-use Rattle.model.specs.Row.{freeRow}
+use Rattle.model.specs.Row.{freeRow, rowAt}
 use Rattle.model.specs.Farm.{Farm, seatCount, newFarm, wrap}
 use Rattle.model.specs.Move.{Own, Held, Move, refused, gave, move, tickMove}
 use Rattle.model.specs.Rule.{Good}
 use Rattle.model.specs.Table.{Table, noHeld, slot, Lent, leastOutput, assemblingSize, Whose, nobodys, farms, everyones, whose, Outcome, refuses, did, movedTo, heldBy, slotTick, tickTable, called, goodTable, step, tableOf}
 use Rattle.model.specs.History.{Made, fresh, stepOf, run}
-use Rattle.model.specs.Meter.{hands, Differs, Balanced}
+use Rattle.model.specs.Meter.{notesOf, saidBy, Log, noLog, notedBy, logFrom, finishedUpTo, total, sumTo, takenBy, takenOf, hands, Differs, Balanced, MetersAre}
 use Rattle.model.proofs.Cases.{pick-case, unless-case}
-use Rattle.model.proofs.MeterFarmSlot.{step-slot}
+use Rattle.model.proofs.MeterFarmSlot.{step-slot, step-length}
+use Rattle.model.proofs.MeterFarmLog.{Tied, Logged}
+use Rattle.model.proofs.MeterFarmTable.{step-comes}
 use Rattle.model.proofs.MeterFarmEven.{move-differs, tick-differs}
 
 -- ---- the difference over a history
@@ -54,6 +56,10 @@ fresh-slot [] g = refl
 fresh-slot (r ∷ rooms) zero = refl
 fresh-slot (r ∷ rooms) (suc g) = fresh-slot rooms g
 
+fresh-length : (rooms : List (List (List ℕ))) → length (fresh rooms) ≡ length rooms
+fresh-length [] = refl
+fresh-length (r ∷ rooms) = ap suc (fresh-length rooms)
+
 free-hands : (n : ℕ) → hands (replicate n freeRow) ≡ 0
 unfolding hands
 free-hands zero = refl
@@ -63,6 +69,49 @@ new-balanced : Differs 0 newFarm
 unfolding newFarm
 new-balanced = ap (λ (n : ℕ). wrap (0 + (0 + n))) (sym (free-hands seatCount))
 
+-- ---- the logs over a history
+
+run-logged : (s : List ℕ) (g : ℕ) → g < farmCount s → (t : Table) → g < length t → (ms : List Made)
+    → ((ns : List Made) (f : ℕ) → f < farmCount s → Good (slotSheet s f) (slot (run s t ns) f .farm))
+    → (T : ℕ) (L : ℕ → Log) → Logged (slotSheet s g) T L (slot t g .farm)
+    → Logged (slotSheet s g) (T + takenOf (slotSheet s g) (notesOf s t ms)) (λ i. logFrom (slotSheet s g .first + i) (L i) (notesOf s t ms))
+    (slot (run s t ms) g .farm)
+unfolding run notesOf logFrom takenOf
+run-logged s g h t l [] good T L x = subst (λ (k : ℕ). Logged (slotSheet s g) k (λ i. L i) (slot t g .farm)) (sym (add-zero T)) x
+run-logged s g h t l (m ∷ ms) good T L x =
+    subst
+    (λ (k : ℕ). Logged (slotSheet s g) k
+    (λ i. logFrom (slotSheet s g .first + i) (notedBy (slotSheet s g .first + i) (m .call) (saidBy (stepOf s t m)) (L i))
+    (notesOf s (tableOf t (stepOf s t m)) ms))
+    (slot (run s (tableOf t (stepOf s t m)) ms) g .farm))
+    (add-assoc T (takenBy (slotSheet s g) (m .call) (saidBy (stepOf s t m))) (takenOf (slotSheet s g) (notesOf s (tableOf t (stepOf s t m)) ms)))
+    (run-logged s g h (tableOf t (stepOf s t m)) (omega (arith, step-length s t m)) ms (λ ns. good (m ∷ ns))
+    (T + takenBy (slotSheet s g) (m .call) (saidBy (stepOf s t m)))
+    (λ i. notedBy (slotSheet s g .first + i) (m .call) (saidBy (stepOf s t m)) (L i))
+    (step-comes s g h t l (good []) T L x m))
+
+free-rows : (n i : ℕ) → rowAt (replicate n freeRow) i ≡ freeRow
+free-rows zero i = refl
+free-rows (suc n) zero = refl
+free-rows (suc n) (suc i) = free-rows n i
+
+none-sum : (n : ℕ) → sumTo (λ i. 0) n ≡ 0
+unfolding sumTo
+none-sum zero = refl
+none-sum (suc n) = omega (arith, none-sum n)
+
+new-logged : (own : FarmSheet) → Logged own 0 (λ i. noLog) newFarm
+unfolding newFarm finishedUpTo total
+new-logged own =
+    record {
+      counted =
+        record {
+          taken = refl;
+          finished = ap wrap (sym (none-sum (own .rows)));
+          lost = ap wrap (sym (none-sum (own .rows)));
+        };
+      tied = λ i h. subst (λ (r : Row). Tied r noLog) (sym (free-rows seatCount i)) refl;
+    }
 -- THE METER EQUATION: "taken equals finished plus lost plus the bytes in hand on open rows, modulo 2^32", after every history from a
 -- fresh table under one sheet, for every farm.
 module _ (s : List ℕ) (rooms : List (List (List ℕ)))
@@ -71,3 +120,18 @@ module _ (s : List ℕ) (rooms : List (List (List ℕ)))
   balanced ms g h =
       ap wrap (sym (add-zero _)) ∙
       run-differs 0 s g (fresh rooms) ms (λ ns. good ns g h) (subst (Differs 0) (sym (fresh-slot rooms g)) new-balanced)
+
+  -- THE METERS ARE WHAT THE HISTORY SAYS: after every history each farm's three meters are, wrapped, the bytes that its bytes calls took;
+  -- the bytes of finished messages in all that was taken from its connections, each cut by the header rules alone; and what was left
+  -- over of each connection when it ended. The table has a slot for each of the sheet's farms.
+  pub meters-are : farmCount s ≤ length rooms → (ms : List Made) (g : ℕ) → g < farmCount s
+      → MetersAre (slotSheet s g) (notesOf s (fresh rooms) ms) (slot (run s (fresh rooms) ms) g .farm .meters)
+  meters-are all ms g h =
+      let x =
+      run-logged s g h (fresh rooms) (omega (arith, fresh-length rooms)) ms (λ ns f l. good ns f l) 0 (λ i. noLog)
+      (subst (Logged (slotSheet s g) 0 (λ i. noLog)) (sym (fresh-slot rooms g)) (new-logged (slotSheet s g))) in
+      record {
+        taken = x .counted .taken ∙ ap wrap (zero-add (takenOf (slotSheet s g) (notesOf s (fresh rooms) ms)));
+        finished = x .counted .finished;
+        lost = x .counted .lost;
+      }

@@ -12,6 +12,7 @@ use Rattle.octets.specs.Choice.{pick, both, unless}
 use Rattle.kinds.specs.declared.Item.{Item}
 use Rattle.kinds.specs.declared.Reply.{Reply}
 use Rattle.kinds.specs.declared.Reply.the-variants.{Nack, Identity, Activation, AliveCheck, Status, PowerMode, Message, Ack, DiagnosticNack, Close, HandOn}
+use Rattle.kinds.specs.declared.Meters.{Meters}
 use Rattle.kinds.specs.declared.Row.{Row}
 use Rattle.kinds.specs.declared.Verdict.{Verdict}
 use Rattle.kinds.specs.declared.Verdict.the-variants.{Passes, Wrong}
@@ -184,6 +185,13 @@ finishedOf own ns = sumTo (λ i. finishedOn (logOf (own .first + i) ns)) (own .r
 
 abbrev pub lostOf : FarmSheet → List Note → ℕ
 lostOf own ns = sumTo (λ i. lostOn (logOf (own .first + i) ns)) (own .rows)
+
+-- ---- "u32, wrapping on purpose": the meters that a day's notes give
+
+pub record MetersAre (own : FarmSheet) (ns : List Note) (m : Meters) : Type 0 where
+  pub taken : m .taken ≡ wrap (takenOf own ns)
+  pub finished : m .finished ≡ wrap (finishedOf own ns)
+  pub lost : m .lost ≡ wrap (lostOf own ns)
 
 -- ---- "taken equals finished plus lost plus the bytes in hand on open rows, modulo 2^32"
 
