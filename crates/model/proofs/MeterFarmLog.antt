@@ -20,7 +20,7 @@ use Rattle.model.specs.FarmSheet.{FarmSheet}
 use Rattle.model.specs.Row.{boundary, noHead, rowOf, freeRow, rowAt, inHandAt, inHandBy, inHand, isOpenState, isOpen, older, olderState}
 use Rattle.model.specs.Farm.{Farm, withRow, wrap, says, closed}
 use Rattle.model.specs.Move.{aged}
-use Rattle.model.specs.Meter.{Log, took, filed, filedBy, isClose, total, sumTo, finishedUpTo, finishedIn, unfinishedIn, finishedOn, lostOn}
+use Rattle.model.specs.Meter.{Log, took, filed, filedBy, isClose, total, sumTo, finishedUpTo, finishedIn, unfinishedIn, finishedOn, lostOn, allOn}
 use Rattle.model.proofs.Cases.{pick-case, split}
 use Rattle.model.proofs.Rows.{row-set, row-other, row-map}
 use Rattle.model.proofs.Seats.{closed-rows}
@@ -106,6 +106,8 @@ pub record Counted (own : FarmSheet) (T : ℕ) (L : ℕ → Log) (f : Farm) : Ty
   pub taken : f .meters .taken ≡ wrap T
   pub finished : f .meters .finished ≡ wrap (sumTo (λ i. finishedOn (L i)) (own .rows))
   pub lost : f .meters .lost ≡ wrap (sumTo (λ i. lostOn (L i)) (own .rows))
+  -- each byte taken is in one log
+  pub each : T ≡ sumTo (λ i. allOn (L i)) (own .rows)
 
 pub record Logged (own : FarmSheet) (T : ℕ) (L : ℕ → Log) (f : Farm) : Type 0 where
   pub counted : Counted own T L f
@@ -117,6 +119,7 @@ counted-same own T L M f e c =
       taken = c .taken;
       finished = c .finished ∙ ap wrap (sym (sum-same (λ i. finishedOn (L i)) (λ i. finishedOn (M i)) (own .rows) (λ i h. ap finishedOn (e i h))));
       lost = c .lost ∙ ap wrap (sym (sum-same (λ i. lostOn (L i)) (λ i. lostOn (M i)) (own .rows) (λ i h. ap lostOn (e i h))));
+      each = c .each ∙ sym (sum-same (λ i. allOn (L i)) (λ i. allOn (M i)) (own .rows) (λ i h. ap allOn (e i h)));
     }
 
 pub logged-same : (own : FarmSheet) (T : ℕ) (L M : ℕ → Log) (f : Farm) → ((i : ℕ) → i < own .rows → M i ≡ L i) → Logged own T L f → Logged own T M f
@@ -177,6 +180,10 @@ filed-finished : (l : Log) → finishedOn (filed l) ≡ finishedOn l
 unfolding total
 filed-finished l = omega (arith, none-finished)
 
+filed-all : (l : Log) → allOn (filed l) ≡ allOn l
+unfolding total
+filed-all l = omega arith
+
 filed-lost : (l : Log) (n : ℕ) → finishedIn (l .now) + n ≡ length (l .now) → lostOn (filed l) ≡ lostOn l + n
 unfolding total
 filed-lost l n e = omega arith
@@ -190,21 +197,25 @@ module _ (own : FarmSheet) (T : ℕ) (is : List Item) (L : ℕ → Log) (seat : 
         taken = closed-taken own seat f ∙ c .taken;
         finished =
           closed-finished own seat f ∙ c .finished ∙
-          ap wrap
-          (sym (sum-same (λ i. finishedOn (after own is L i)) (λ i. finishedOn (after own (is ++ closed own seat f .items) L i)) (own .rows)
-          (λ i _. split (eqb i seat) (λ t. at-seat i (eqb-true i seat t)) (λ t. ap finishedOn (closes-other own is seat i f (L i) (eqb-false i seat t))))));
+          ap wrap (sym (kept-sum finishedOn filed-finished));
         lost =
           closed-lost own seat f ∙ ap (λ (n : ℕ). wrap (n + inHand (rowAt (f .rows) seat))) (c .lost) ∙ wrap-left _ _ ∙
           ap wrap
           (sym (sum-one (λ i. lostOn (after own is L i)) (λ i. lostOn (after own (is ++ closed own seat f .items) L i)) seat
           (inHand (rowAt (f .rows) seat)) (own .rows) b (λ i n. ap lostOn (closes-other own is seat i f (L i) n))
           (ap lostOn (closes-this own is seat f (L seat)) ∙ filed-lost (after own is L seat) (inHand (rowAt (f .rows) seat)) h)));
+        each = c .each ∙ sym (kept-sum allOn filed-all);
       }
     where
-      at-seat : (i : ℕ) → i ≡ seat → finishedOn (after own (is ++ closed own seat f .items) L i) ≡ finishedOn (after own is L i)
-      at-seat i e =
-          subst (λ (k : ℕ). finishedOn (after own (is ++ closed own seat f .items) L k) ≡ finishedOn (after own is L k)) (sym e)
-          (ap finishedOn (closes-this own is seat f (L seat)) ∙ filed-finished (after own is L seat))
+      -- what filing a log leaves as it is
+      kept-sum : (v : Log → ℕ) → ((l : Log) → v (filed l) ≡ v l)
+          → sumTo (λ i. v (after own (is ++ closed own seat f .items) L i)) (own .rows) ≡ sumTo (λ i. v (after own is L i)) (own .rows)
+      kept-sum v e =
+          sum-same (λ i. v (after own is L i)) (λ i. v (after own (is ++ closed own seat f .items) L i)) (own .rows)
+          (λ i _. split (eqb i seat)
+          (λ t. subst (λ (k : ℕ). v (after own (is ++ closed own seat f .items) L k) ≡ v (after own is L k)) (sym (eqb-true i seat t))
+          (ap v (closes-this own is seat f (L seat)) ∙ e (after own is L seat)))
+          (λ t. ap v (closes-other own is seat i f (L i) (eqb-false i seat t))))
 
   pub closed-tied : ((i : ℕ) → i < own .rows → (i ≡ seat → ⊥) → Tied (rowAt (f .rows) i) (after own is L i))
       → (i : ℕ) → i < own .rows → Tied (rowAt (closed own seat f .farm .rows) i) (after own (is ++ closed own seat f .items) L i)

@@ -17,7 +17,7 @@ use Rattle.model.specs.Stream.{Stream, streamOf, Fed, more, ends, feed, 
 use Rattle.model.specs.Farm.{Farm, withRow, wrap, closed}
 use Rattle.model.specs.Bytes.{heardRow, heard, takenBy}
 use Rattle.model.specs.Rule.{Good}
-use Rattle.model.specs.Meter.{Log, took, filed, filedBy, isClose, total, sumTo, finishedIn, finishedOn, lostOn}
+use Rattle.model.specs.Meter.{Log, took, filed, filedBy, isClose, total, sumTo, finishedIn, finishedOn, lostOn, allOn}
 use Rattle.model.proofs.Cases.{split}
 use Rattle.model.proofs.Rows.{row-put, row-set, row-same, row-map, open-in}
 use Rattle.model.proofs.Balance.{wrap-left, closing, fits-of, takes-balance, hand-open}
@@ -35,7 +35,7 @@ logged-laws own T L =
       puts =
         λ is seat s f b o e h.
         record {
-          counted = record { taken = h .counted .taken; finished = h .counted .finished; lost = h .counted .lost };
+          counted = record { taken = h .counted .taken; finished = h .counted .finished; lost = h .counted .lost; each = h .counted .each };
           tied =
             λ i l.
             row-set (f .rows) seat i (rowOf s) (λ (y : Row). Tied y (after own is L i))
@@ -47,11 +47,11 @@ logged-laws own T L =
       speaks = λ is it f e h. logged-same own T (after own is L) (after own (is ++ (it ∷ [])) L) f (λ i _. filed-quiet (own .first + i) is it (L i) e) h;
       lines =
         λ is f line clock marks h.
-        record { counted = record { taken = h .counted .taken; finished = h .counted .finished; lost = h .counted .lost }; tied = h .tied };
+        record { counted = record { taken = h .counted .taken; finished = h .counted .finished; lost = h .counted .lost; each = h .counted .each }; tied = h .tied };
       ages =
         λ is f h.
         record {
-          counted = record { taken = h .counted .taken; finished = h .counted .finished; lost = h .counted .lost };
+          counted = record { taken = h .counted .taken; finished = h .counted .finished; lost = h .counted .lost; each = h .counted .each };
           tied =
             λ i l. subst (λ (y : Row). Tied y (after own is L i)) (sym (row-map older refl (f .rows) i))
             (tied-older (rowAt (f .rows) i .state) (rowAt (f .rows) i .place) (rowAt (f .rows) i .head) (after own is L i .now) (h .tied i l));
@@ -80,8 +80,8 @@ took-finished : (l : Log) (bytes : List ℕ) (n : ℕ) → finishedIn (l .now ++
     → finishedOn (took bytes l) ≡ finishedOn l + n
 took-finished l bytes n e = omega arith
 
-took-lost : (l : Log) (bytes : List ℕ) → lostOn (took bytes l) ≡ lostOn l
-took-lost l bytes = refl
+took-all : (l : Log) (bytes : List ℕ) (n : ℕ) → length bytes ≡ n → allOn (took bytes l) ≡ allOn l + n
+took-all l bytes n e = omega (arith, length-append (l .now) bytes)
 
 module _ {own : FarmSheet} {f : Farm} (good : Good own f) (seat : ℕ) (b : seat < own .rows) (talks : Talks (rowAt (f .rows) seat .state))
     (room input : List ℕ) (T : ℕ) (L M : ℕ → Log) (notes : Notes seat (take (takenBy seat room input f .count) input) L M) (h : Logged own T L f) where
@@ -131,6 +131,10 @@ module _ {own : FarmSheet} {f : Farm} (good : Good own f) (seat : ℕ) (b : seat
           ap wrap
           (sym (sum-same (λ i. lostOn (L i)) (λ i. lostOn (M i)) (own .rows)
           (λ i _. split (eqb i seat) (λ t. same i (eqb-true i seat t)) (λ t. ap lostOn (notes .others i (eqb-false i seat t))))));
+        each =
+          ap (λ (n : ℕ). n + takes s input .count) (h .counted .each) ∙
+          sym (sum-one (λ i. allOn (L i)) (λ i. allOn (M i)) seat (takes s input .count) (own .rows) b (λ i n. ap allOn (notes .others i n))
+          (ap allOn (notes .this) ∙ took-all (L seat) (take (takes s input .count) input) (takes s input .count) (takes-some s input)));
       }
     where
       same : (i : ℕ) → i ≡ seat → lostOn (M i) ≡ lostOn (L i)

@@ -109,6 +109,7 @@ new-logged own =
           taken = refl;
           finished = ap wrap (sym (none-sum (own .rows)));
           lost = ap wrap (sym (none-sum (own .rows)));
+          each = sym (none-sum (own .rows));
         };
       tied = λ i h. subst (λ (r : Row). Tied r noLog) (sym (free-rows seatCount i)) refl;
     }

@@ -179,6 +179,10 @@ finishedOn l = finishedIn (l .now) + total finishedIn (l .ended)
 abbrev pub lostOn : Log → ℕ
 lostOn l = total unfinishedIn (l .ended)
 
+-- all that was ever taken from a row
+abbrev pub allOn : Log → ℕ
+allOn l = length (l .now) + total length (l .ended)
+
 -- over the farm's rows
 abbrev pub finishedOf : FarmSheet → List Note → ℕ
 finishedOf own ns = sumTo (λ i. finishedOn (logOf (own .first + i) ns)) (own .rows)
