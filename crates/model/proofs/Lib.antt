@@ -11,6 +11,7 @@ pub mod MeterFarmSlot
 pub mod MeterFarmCut
 pub mod MeterFarmStream
 pub mod MeterFarmLog
+pub mod MeterFarmSums
 pub mod MeterFarmNote
 pub mod MeterFarmTold
 pub mod MeterFarmTable

@@ -106,3 +106,18 @@ pub whole-message : (a : List ℕ) → headerSize ≤ length a → stops (verdic
 whole-message a l e s b =
     cut-message (a ++ b) (headerAt a 0) (head-append a b l) (omega (arith, length-append a b)) e (omega (arith, length-append a b)) ∙
     rw (← s) (ap (λ (c : List ℕ). length a + finishedIn c) (drop-append-seam a b))
+
+-- no more is finished than there is
+pub finished-most : (k : ℕ) (bytes : List ℕ) → finishedUpTo k bytes ≤ length bytes
+unfolding finishedUpTo
+finished-most zero bytes = omega arith
+finished-most (suc k) bytes =
+    unless-case (λ n. n ≤ length bytes) (leb headerSize (length bytes)) _ _ (λ _. omega arith)
+    (λ t. pick-case (λ n. n ≤ length bytes) (stops (verdictOf (headerAt bytes 0))) _ _ (λ _. leb-true headerSize (length bytes) t)
+    (λ _. unless-case (λ n. n ≤ length bytes) (leb (wholeSize bytes) (length bytes)) _ _ (λ _. omega arith)
+    (λ u. omega (
+      arith,
+      leb-true (wholeSize bytes) (length bytes) u,
+      length-drop (wholeSize bytes) bytes,
+      finished-most k (drop (wholeSize bytes) bytes),
+    ))))

@@ -20,10 +20,11 @@ use Rattle.model.specs.Move.{Own, Held, Move, refused, gave, move, tickM
 use Rattle.model.specs.Rule.{Good}
 use Rattle.model.specs.Table.{Table, noHeld, slot, Lent, leastOutput, assemblingSize, Whose, nobodys, farms, everyones, whose, Outcome, refuses, did, movedTo, heldBy, slotTick, tickTable, called, goodTable, step, tableOf}
 use Rattle.model.specs.History.{Made, fresh, stepOf, run}
-use Rattle.model.specs.Meter.{notesOf, saidBy, Log, noLog, notedBy, logFrom, finishedUpTo, total, sumTo, takenBy, takenOf, hands, Differs, Balanced, MetersAre}
+use Rattle.model.specs.Meter.{notesOf, saidBy, Log, noLog, notedBy, logFrom, finishedUpTo, total, sumTo, takenBy, takenOf, finishedOf, lostOf, logOf, hands, Differs, Balanced, MetersAre}
 use Rattle.model.proofs.Cases.{pick-case, unless-case}
 use Rattle.model.proofs.MeterFarmSlot.{step-slot, step-length}
 use Rattle.model.proofs.MeterFarmLog.{Tied, Logged}
+use Rattle.model.proofs.MeterFarmSums.{exact}
 use Rattle.model.proofs.MeterFarmTable.{step-comes}
 use Rattle.model.proofs.MeterFarmEven.{move-differs, tick-differs}
 
@@ -122,17 +123,29 @@ module _ (s : List ℕ) (rooms : List (List (List ℕ)))
       ap wrap (sym (add-zero _)) ∙
       run-differs 0 s g (fresh rooms) ms (λ ns. good ns g h) (subst (Differs 0) (sym (fresh-slot rooms g)) new-balanced)
 
-  -- THE METERS ARE WHAT THE HISTORY SAYS: after every history each farm's three meters are, wrapped, the bytes that its bytes calls took;
-  -- the bytes of finished messages in all that was taken from its connections, each cut by the header rules alone; and what was left
-  -- over of each connection when it ended. The table has a slot for each of the sheet's farms.
-  pub meters-are : farmCount s ≤ length rooms → (ms : List Made) (g : ℕ) → g < farmCount s
-      → MetersAre (slotSheet s g) (notesOf s (fresh rooms) ms) (slot (run s (fresh rooms) ms) g .farm .meters)
-  meters-are all ms g h =
-      let x =
-      run-logged s g h (fresh rooms) (omega (arith, fresh-length rooms)) ms (λ ns f l. good ns f l) 0 (λ i. noLog)
-      (subst (Logged (slotSheet s g) 0 (λ i. noLog)) (sym (fresh-slot rooms g)) (new-logged (slotSheet s g))) in
-      record {
-        taken = x .counted .taken ∙ ap wrap (zero-add (takenOf (slotSheet s g) (notesOf s (fresh rooms) ms)));
-        finished = x .counted .finished;
-        lost = x .counted .lost;
-      }
+  module _ (all : farmCount s ≤ length rooms) (ms : List Made) (g : ℕ) (h : g < farmCount s) where
+    history-logged : Logged (slotSheet s g) (0 + takenOf (slotSheet s g) (notesOf s (fresh rooms) ms))
+        (λ i. logOf (slotSheet s g .first + i) (notesOf s (fresh rooms) ms)) (slot (run s (fresh rooms) ms) g .farm)
+    history-logged =
+        run-logged s g h (fresh rooms) (omega (arith, fresh-length rooms)) ms (λ ns f l. good ns f l) 0 (λ i. noLog)
+        (subst (Logged (slotSheet s g) 0 (λ i. noLog)) (sym (fresh-slot rooms g)) (new-logged (slotSheet s g)))
+
+    -- THE METERS ARE WHAT THE HISTORY SAYS: after every history each farm's three meters are, wrapped, the bytes that its bytes calls
+    -- took; the bytes of finished messages in all that was taken from its connections, each cut by the header rules alone; and what was
+    -- left over of each connection when it ended. (The table has a slot for each of the sheet's farms.)
+    pub meters-are : MetersAre (slotSheet s g) (notesOf s (fresh rooms) ms) (slot (run s (fresh rooms) ms) g .farm .meters)
+    meters-are =
+        let x = history-logged in
+        record {
+          taken = x .counted .taken ∙ ap wrap (zero-add (takenOf (slotSheet s g) (notesOf s (fresh rooms) ms)));
+          finished = x .counted .finished;
+          lost = x .counted .lost;
+        }
+
+    -- THE SAME WITHOUT WRAPPING: the three numbers that a history gives, and the bytes in hand on open rows, fit exactly.
+    pub taken-is : takenOf (slotSheet s g) (notesOf s (fresh rooms) ms) ≡
+        finishedOf (slotSheet s g) (notesOf s (fresh rooms) ms) +
+        (lostOf (slotSheet s g) (notesOf s (fresh rooms) ms) + hands (slot (run s (fresh rooms) ms) g .farm .rows))
+    taken-is =
+        sym (zero-add (takenOf (slotSheet s g) (notesOf s (fresh rooms) ms))) ∙
+        exact (slotSheet s g) _ _ (slot (run s (fresh rooms) ms) g .farm) history-logged (good ms g h .within)
