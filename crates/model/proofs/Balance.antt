@@ -8,9 +8,9 @@ use mathlib.Core.List.{List, [], _∷_, _++_, map}
 use native.Mathlib.Nat.{not-suc-le-zero}
 use native.Mathlib.Omega.{arith}
 use lib.Dec.{eqb, ltb, leb}
-use lib.ListN.{getD, set, length}
+use lib.ListN.{set, length}
 use borrow.Author.Tests.{ltb-true, ltb-false, eq-eqb}
-use Rattle.octets.specs.Choice.{pick, both, unless, one}
+use Rattle.octets.specs.Choice.{both, one}
 use Rattle.octets.specs.Search.{some, countIf}
 use Rattle.kinds.specs.declared.Fault.{Fault}
 use Rattle.kinds.specs.declared.Verdict.{Verdict}
@@ -23,13 +23,13 @@ use Rattle.kinds.specs.declared.Row.{Row}
 use Rattle.wire.specs.declared.header.Header.{Header as Head}
 use Rattle.wire.specs.Types.{tcp, types, lengthFits, knownOn}
 use Rattle.wire.specs.Header.{headerSize, headerAt, verdictOf, closes, rightPattern, mostPayload}
-use Rattle.model.specs.Row.{freeRow, rowAt, inHandAt, inHandBy, inHand, isOpenState, isOpen, older, olderState, boundary}
-use Rattle.model.specs.Stream.{Stream, streamOf, Event, inputEnded, wrong, finished, skipped, Fed, more, ends, rested, afterWrong, judged, feedAt, feed, Taken, taken, takesBy, takes, endedBy}
+use Rattle.model.specs.Row.{freeRow, rowAt, inHandAt, inHandBy, inHand, isOpenState, older, olderState, boundary}
+use Rattle.model.specs.Stream.{Stream, Event, inputEnded, wrong, finished, skipped, Fed, more, ends, judged, feedAt, feed, takesBy, takes, endedBy}
 use Rattle.model.specs.Farm.{wrap}
 use Rattle.model.specs.Line.{without}
 use Rattle.model.specs.Rule.{times, PossibleAt}
 use Rattle.model.specs.Meter.{hands}
-use Rattle.model.proofs.Cases.{pick-case, unless-case, split}
+use Rattle.model.proofs.Cases.{pick-case, unless-case}
 use Rattle.model.proofs.Rows.{row-set, row-map}
 
 -- ---- sums that wrap

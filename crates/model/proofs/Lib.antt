@@ -15,5 +15,6 @@ pub mod MeterFarmSums
 pub mod MeterFarmNote
 pub mod MeterFarmTold
 pub mod MeterFarmTable
+pub mod MeterFarmCase
 pub mod MeterHistory
 pub mod Try

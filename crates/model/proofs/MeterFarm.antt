@@ -5,18 +5,16 @@ use Prim.Native.Nat.{ℕ, zero, suc, _+_, _≤_, _<_}
 use mathlib.Core.Path.{_≡_, refl, sym, ap, subst, _∙_}
 use mathlib.Core.Bool.{Bool, true, false, false≢true}
 use mathlib.Core.Logic.{_⊎_, ⊎-elim, inl, inr}
-use mathlib.Core.List.{List, [], _∷_, _++_, append-assoc, append-nil, map}
+use mathlib.Core.List.{List, [], _∷_, _++_, append-assoc, append-nil}
 use native.Mathlib.Omega.{arith}
 use lib.Dec.{eqb, leb}
-use lib.ListN.{getD, set, length}
+use lib.ListN.{length}
 use borrow.Author.Tests.{eqb-true, leb-true, leb-false}
 use Rattle.octets.specs.declared.Found.{Found}
 use Rattle.octets.specs.declared.Found.the-variants.{At, Nothing}
-use Rattle.octets.specs.Choice.{pick, both}
 use Rattle.octets.specs.Search.{firstAt, countIf}
 use Rattle.octets.specs.Fold.{upTo}
 use Rattle.kinds.specs.declared.Clock.{Clock}
-use Rattle.kinds.specs.declared.Request.{Request}
 use Rattle.kinds.specs.declared.Check.{Check}
 use Rattle.kinds.specs.declared.Check.the-variants.{One, All}
 use Rattle.kinds.specs.declared.Decision.{Decision}
@@ -27,17 +25,15 @@ use Rattle.kinds.specs.declared.RowState.{RowState}
 use Rattle.kinds.specs.declared.RowState.the-variants.{Free, Fresh, Waiting, Active}
 use Rattle.kinds.specs.declared.Row.{Row}
 use Rattle.kinds.specs.declared.Item.{Item}
-use Rattle.kinds.specs.declared.Reply.the-variants.{Activation, AliveCheck}
 use Rattle.model.specs.FarmSheet.{FarmSheet}
-use Rattle.model.specs.Row.{clockOf, checkLimit, rowOf, freeRow, rowAt, inHand, isOpenState, isOpen, isActive, activeAs, activeRow, waitingRow, wanted}
-use Rattle.model.specs.Farm.{Farm, seatCount, withRow, withLine, Done, does, quietly, andThen, eachSeat, says, closed, closedIf, closedWhere}
-use Rattle.model.specs.Line.{accepted, asks, isSilent, isMarked, allAnswered, refusalOf, byPlaces, byHolder, askedIf, asking, cleared, startedBy, started, advanced, answered, verdictBy, headVerdict, serve, settleLine, socketRules, joined, isEmpty, leftBy, left, isAsked, marked}
+use Rattle.model.specs.Row.{clockOf, checkLimit, rowOf, freeRow, rowAt, inHand, isOpenState, isOpen, isActive, activeAs, wanted}
+use Rattle.model.specs.Farm.{Farm, seatCount, withRow, withLine, Done, quietly, andThen, eachSeat, closed, closedIf, closedWhere}
+use Rattle.model.specs.Line.{accepted, asks, isSilent, isMarked, allAnswered, byHolder, askedIf, asking, cleared, startedBy, started, advanced, answered, verdictBy, headVerdict, serve, settleLine, socketRules}
 use Rattle.model.specs.Move.{aged}
 use Rattle.model.specs.Meter.{isClose}
 use Rattle.model.proofs.Cases.{pick-case, split}
 use Rattle.model.proofs.Rows.{row-set}
-use Rattle.model.proofs.Seats.{closed-line}
-use Rattle.model.proofs.Balance.{hand-boundary, Clear, none, next, clear-below, clear-first, clear-rest, clear-set, clear-append, clear-without}
+use Rattle.model.proofs.Balance.{hand-boundary, Clear, clear-below, clear-first, clear-rest, clear-set}
 
 -- ---- the property, and what keeps it
 

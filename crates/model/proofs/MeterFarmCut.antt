@@ -1,21 +1,19 @@
 -- The bytes of a connection cut into messages, and where a row stands in them.
 -- Assumes nothing.
-use Prim.Native.Nat.{ℕ, zero, suc, _+_, _-_, _≤_, _<_}
+use Prim.Native.Nat.{ℕ, zero, suc, _+_, _≤_, _<_}
 use mathlib.Core.Path.{_≡_, refl, sym, ap, subst, _∙_}
-use mathlib.Core.Bool.{Bool, true, false, false≢true}
-use mathlib.Core.List.{List, [], _∷_, _++_, append-assoc, append-nil}
-use native.Mathlib.Nat.{not-suc-le-zero, zero-add}
+use mathlib.Core.Bool.{true, false}
+use mathlib.Core.List.{List, [], _++_, append-assoc}
+use native.Mathlib.Nat.{zero-add}
 use native.Mathlib.Omega.{arith}
-use lib.Dec.{eqb, leb, ltb}
-use lib.ListN.{getD, set, length, drop, replicate, length-append, length-drop, List·getD-append}
+use lib.Dec.{leb}
+use lib.ListN.{getD, length, drop, length-append, length-drop, List·getD-append}
 use lib.Seq.{drop-append-seam}
-use borrow.Author.Tests.{leb-true, leb-false, le-leb}
+use borrow.Author.Tests.{leb-true, le-leb}
 use Rattle.octets.specs.Choice.{pick, unless}
-use Rattle.kinds.specs.declared.Verdict.{Verdict}
-use Rattle.kinds.specs.declared.Verdict.the-variants.{Passes, Wrong}
 use Rattle.wire.specs.declared.header.Header.{Header as Head}
 use Rattle.wire.specs.Header.{headerSize, headerAt, verdictOf}
-use Rattle.model.specs.Meter.{stops, wholeSize, finishedUpTo, finishedIn, unfinishedIn}
+use Rattle.model.specs.Meter.{stops, wholeSize, finishedUpTo, finishedIn}
 use Rattle.model.proofs.Cases.{pick-case, unless-case, split}
 
 -- ---- a message that is not all there

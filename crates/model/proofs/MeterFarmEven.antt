@@ -1,19 +1,15 @@
 -- The meters of one farm: every call and every tick keeps the difference of the two sides of the meter equation.
 -- Assumes nothing.
-use Prim.{Unit, tt}
-use Prim.Native.Nat.{ℕ, zero, suc, _+_, _≤_, _<_}
-use mathlib.Core.Path.{_≡_, refl, sym, ap, subst, _∙_}
-use mathlib.Core.Bool.{Bool, true, false}
-use mathlib.Core.List.{List, [], _∷_}
+use Prim.Native.Nat.{ℕ, _+_}
+use mathlib.Core.Path.{_≡_, sym, ap, _∙_}
+use mathlib.Core.List.{List, []}
 use native.Mathlib.Omega.{arith}
 use lib.ListN.{getD, set}
-use Rattle.kinds.specs.declared.RowState.{RowState}
 use Rattle.kinds.specs.declared.Row.{Row}
-use Rattle.kinds.specs.declared.Item.{Item}
 use Rattle.model.specs.FarmSheet.{FarmSheet}
 use Rattle.model.specs.Row.{rowOf, freeRow, rowAt, inHandAt, inHand}
 use Rattle.model.specs.Stream.{Taken, endedBy}
-use Rattle.model.specs.Farm.{Farm, withRow, wrap, closed}
+use Rattle.model.specs.Farm.{Farm, wrap, closed}
 use Rattle.model.specs.Bytes.{heardRow, heard, takenBy}
 use Rattle.model.specs.Move.{Own, connect, bytes, peerClosed, linkLost, datagram, controller, Held, Move, refused, gave, ticked, move}
 use Rattle.model.specs.Rule.{Good}

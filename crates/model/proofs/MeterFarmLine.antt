@@ -1,15 +1,13 @@
 -- The same for what a call does to the line before it is settled: joining, leaving, marking; and for bytes and the other calls.
 -- Assumes nothing.
-use Prim.Native.Nat.{ℕ, zero, suc, _+_, _≤_, _<_}
-use mathlib.Core.Path.{_≡_, refl, sym, ap, subst, _∙_}
-use mathlib.Core.Bool.{Bool, true, false, false≢true}
+use Prim.Native.Nat.{ℕ, _<_}
+use mathlib.Core.Path.{_≡_, refl, sym, subst, _∙_}
+use mathlib.Core.Bool.{Bool, true}
 use mathlib.Core.List.{List, [], _∷_, _++_}
-use native.Mathlib.Omega.{arith}
 use lib.Dec.{eqb}
-use lib.ListN.{getD, set, length}
-use Rattle.octets.specs.Choice.{pick, both}
+use lib.ListN.{set}
+use Rattle.octets.specs.Choice.{both}
 use Rattle.kinds.specs.declared.Request.{Request}
-use Rattle.kinds.specs.declared.Check.{Check}
 use Rattle.kinds.specs.declared.Decision.{Decision}
 use Rattle.kinds.specs.declared.Decision.the-variants.{Now, Ask}
 use Rattle.kinds.specs.declared.RowState.the-variants.{Waiting}
@@ -17,13 +15,13 @@ use Rattle.kinds.specs.declared.Row.{Row}
 use Rattle.kinds.specs.declared.Item.{Item}
 use Rattle.model.specs.FarmSheet.{FarmSheet}
 use Rattle.model.specs.Row.{rowAt, inHand, activeAs, waitingRow, wanted}
-use Rattle.model.specs.Farm.{Farm, withRow, withLine, Done, does, quietly, andThen, eachSeat, closed, closedWhere}
+use Rattle.model.specs.Farm.{Farm, withRow, withLine, Done, quietly, andThen, closed, closedWhere}
 use Rattle.model.specs.Line.{accepted, asks, askedIf, asking, cleared, startedBy, started, advanced, answered, socketRules, joined, isEmpty, without, leftBy, left, isAsked, marked}
 use Rattle.model.proofs.Cases.{pick-case}
 use Rattle.model.proofs.Rows.{row-set}
 use Rattle.model.proofs.Seats.{each-keeps, closings-keep, closed-line}
-use Rattle.model.proofs.Balance.{Clear, none, next, clear-below, clear-first, clear-rest, clear-append, clear-without}
-use Rattle.model.proofs.MeterFarm.{Laws, Keeps, Then, then-then, then-quiet, Owned, closed-keeps, closings-keeps, put-keeps, lines-keeps, answered-keeps, started-keeps, advanced-keeps}
+use Rattle.model.proofs.Balance.{next, clear-below, clear-first, clear-rest, clear-append, clear-without}
+use Rattle.model.proofs.MeterFarm.{Laws, Keeps, Then, then-quiet, Owned, closed-keeps, closings-keeps, put-keeps, lines-keeps, answered-keeps, started-keeps, advanced-keeps}
 
 -- ---- the line that things leave
 

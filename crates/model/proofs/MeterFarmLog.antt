@@ -1,13 +1,13 @@
 -- Each row's log says where the row stands, and the logs of a farm's rows give its meters: kept by everything that a farm does.
 -- Assumes nothing.
-use Prim.Native.Nat.{ℕ, zero, suc, _+_, _-_, _≤_, _<_}
+use Prim.Native.Nat.{ℕ, zero, suc, _+_, _<_}
 use mathlib.Core.Path.{_≡_, refl, sym, ap, subst, _∙_}
-use mathlib.Core.Bool.{Bool, true, false, false≢true}
-use mathlib.Core.List.{List, [], _∷_, _++_, append-assoc, append-nil, map}
+use mathlib.Core.Bool.{true, false, false≢true}
+use mathlib.Core.List.{List, [], _∷_, _++_}
 use native.Mathlib.Nat.{not-suc-le-zero}
 use native.Mathlib.Omega.{arith}
 use lib.Dec.{eqb, leb}
-use lib.ListN.{getD, set, length, take, length-append}
+use lib.ListN.{set, length}
 use borrow.Author.Tests.{eqb-true, eqb-false, eq-eqb, ne-eqb, leb-true, leb-false}
 use Rattle.octets.specs.Choice.{pick, both}
 use Rattle.kinds.specs.declared.RowState.{RowState}
@@ -17,15 +17,13 @@ use Rattle.kinds.specs.declared.Row.{Row}
 use Rattle.kinds.specs.declared.Item.{Item}
 use Rattle.kinds.specs.declared.Reply.the-variants.{Close}
 use Rattle.model.specs.FarmSheet.{FarmSheet}
-use Rattle.model.specs.Row.{boundary, noHead, rowOf, freeRow, rowAt, inHandAt, inHandBy, inHand, isOpenState, isOpen, older, olderState}
-use Rattle.model.specs.Farm.{Farm, withRow, wrap, says, closed}
-use Rattle.model.specs.Move.{aged}
-use Rattle.model.specs.Meter.{Log, took, filed, filedBy, isClose, total, sumTo, finishedUpTo, finishedIn, unfinishedIn, finishedOn, lostOn, allOn}
-use Rattle.model.proofs.Cases.{pick-case, split}
-use Rattle.model.proofs.Rows.{row-set, row-other, row-map}
+use Rattle.model.specs.Row.{boundary, noHead, freeRow, rowAt, inHandBy, inHand, isOpenState, olderState}
+use Rattle.model.specs.Farm.{Farm, wrap, says, closed}
+use Rattle.model.specs.Meter.{Log, filed, filedBy, isClose, total, sumTo, finishedUpTo, finishedIn, finishedOn, lostOn, allOn}
+use Rattle.model.proofs.Cases.{split}
+use Rattle.model.proofs.Rows.{row-other}
 use Rattle.model.proofs.Seats.{closed-rows}
-use Rattle.model.proofs.Balance.{wrap-left, hand-boundary}
-use Rattle.model.proofs.MeterFarm.{Laws}
+use Rattle.model.proofs.Balance.{wrap-left}
 use Rattle.model.proofs.MeterFarmCut.{whole-none}
 use Rattle.model.proofs.MeterFarmStream.{Stands, stands-hand, stands-rested, stands-still}
 

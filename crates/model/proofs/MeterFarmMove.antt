@@ -1,20 +1,19 @@
 -- The same for the calls of a farm: a call starts with nothing said, on a farm that keeps rule 4.
 -- Assumes nothing.
 use Prim.{Unit, tt}
-use Prim.Native.Nat.{ℕ, zero, suc, _+_, _≤_, _<_}
-use mathlib.Core.Path.{_≡_, refl, sym, ap, subst, _∙_}
+use Prim.Native.Nat.{ℕ, zero, suc, _≤_, _<_}
+use mathlib.Core.Path.{_≡_, refl, sym, ap, _∙_}
 use mathlib.Core.Bool.{Bool, true, false, false≢true}
-use mathlib.Core.Logic.{_⊎_, inl, inr}
-use mathlib.Core.List.{List, [], _∷_, _++_, map}
+use mathlib.Core.Logic.{inr}
+use mathlib.Core.List.{List, [], _∷_, _++_}
 use native.Mathlib.Nat.{not-suc-le-zero}
 use native.Mathlib.Omega.{arith}
 use lib.Dec.{eqb, leb}
-use lib.ListN.{getD, set, length, take}
+use lib.ListN.{getD, length, take}
 use Rattle.octets.specs.declared.Found.{Found}
 use Rattle.octets.specs.declared.Found.the-variants.{At, Nothing}
 use Rattle.octets.specs.Choice.{pick, one}
-use Rattle.octets.specs.Search.{firstAt, sameList}
-use Rattle.kinds.specs.declared.Fault.{Fault}
+use Rattle.octets.specs.Search.{firstAt}
 use Rattle.kinds.specs.declared.Request.{Request}
 use Rattle.kinds.specs.declared.Decision.{Decision}
 use Rattle.kinds.specs.declared.Decision.the-variants.{Now, Ask}
@@ -32,18 +31,18 @@ use Rattle.wire.specs.Payload.{requestIn, addressIn, endsIn}
 use Rattle.wire.specs.declared.payload.Ends.{Ends}
 use Rattle.datagram.specs.Datagram.{datagramVerdict, payloadOf, ifNamed, answerBy, answerFor, answerTo}
 use Rattle.model.specs.FarmSheet.{FarmSheet, TargetIs, stranger, unreachable, reachable}
-use Rattle.model.specs.Row.{clockOf, boundary, rowAt, inHandAt, inHandBy, inHand, isOpenState, isOpen, isFreeState, isFree, isWaitingState, isWaiting, activeAs, atLimitState, atLimit, older, olderState, heardState, freshRow}
+use Rattle.model.specs.Row.{clockOf, boundary, rowAt, inHandAt, inHandBy, inHand, isOpenState, isOpen, isFreeState, isFree, isWaitingState, isWaiting, activeAs, atLimitState, atLimit, older, olderState, heardState}
 use Rattle.model.specs.Stream.{Stream, Event, inputEnded, wrong, finished, skipped, Taken}
-use Rattle.model.specs.Farm.{Farm, withRow, withLine, Done, does, quietly, andThen, closed, closedWhere}
-use Rattle.model.specs.Line.{decide, settle, settleLine, cleared, left}
-use Rattle.model.specs.Bytes.{decidedBy, requested, toTarget, diagnosed, messaged, faulted, eventDone, heardRow, heard, takenBy, bytesDone}
-use Rattle.model.specs.Move.{Own, connect, bytes, peerClosed, linkLost, datagram, controller, Held, Move, refused, gave, connectedAt, connects, bytesBy, peerGone, linkGone, clockRun, aged, ticked, openRows, answers, datagramMove, isTarget, toTester, mostUser, controllerMove, move, tickMove}
+use Rattle.model.specs.Farm.{Farm, withLine, quietly, andThen, closed, closedWhere}
+use Rattle.model.specs.Line.{decide, settle, cleared, left}
+use Rattle.model.specs.Bytes.{decidedBy, requested, toTarget, diagnosed, messaged, eventDone, heardRow, heard, takenBy, bytesDone}
+use Rattle.model.specs.Move.{connect, bytes, peerClosed, linkLost, datagram, controller, Held, Move, refused, gave, connectedAt, connects, bytesBy, peerGone, linkGone, clockRun, aged, ticked, openRows, answers, datagramMove, isTarget, toTester, mostUser, controllerMove, move}
 use Rattle.model.specs.Rule.{times, RowKeeps, Good}
 use Rattle.model.specs.Meter.{isClose}
-use Rattle.model.proofs.Cases.{pick-case, unless-case, split}
+use Rattle.model.proofs.Cases.{pick-case, unless-case}
 use Rattle.model.proofs.Rows.{row-put, row-set, row-same, row-map, open-in}
 use Rattle.model.proofs.Balance.{closing, Rests, takes-rests, hand-open, hand-boundary, Clear, clear-of, clear-older}
-use Rattle.model.proofs.MeterFarm.{Laws, Keeps, Then, then-then, then-quiet, Owned, open-below, speak-keeps, closings-keeps, lines-keeps, Picked, first-picked, settle-keeps}
+use Rattle.model.proofs.MeterFarm.{Laws, Keeps, Then, then-then, then-quiet, open-below, speak-keeps, closings-keeps, lines-keeps, first-picked, settle-keeps}
 use Rattle.model.proofs.MeterFarmLine.{Ready, ready-closed, ready-closings, ready-answered, ready-joined, ready-left, ready-marked}
 
 -- ---- what rule 4 gives

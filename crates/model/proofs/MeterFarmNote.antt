@@ -1,30 +1,28 @@
 -- What a call of a farm notes in the logs of its rows.
 -- Assumes nothing.
-use Prim.Native.Nat.{ℕ, zero, suc, _+_, _-_, _≤_, _<_}
+use Prim.Native.Nat.{ℕ, suc, _+_, _<_}
 use mathlib.Core.Path.{_≡_, refl, sym, ap, subst, _∙_}
-use mathlib.Core.Bool.{Bool, true, false, false≢true}
-use mathlib.Core.List.{List, [], _∷_, _++_, append-nil, map}
+use mathlib.Core.Bool.{false}
+use mathlib.Core.List.{List, [], _∷_, _++_}
 use native.Mathlib.Omega.{arith}
 use lib.Dec.{eqb}
-use lib.ListN.{getD, set, length, take, length-append}
+use lib.ListN.{length, take, length-append}
 use borrow.Author.Tests.{eqb-true, eqb-false}
-use Rattle.kinds.specs.declared.RowState.{RowState}
 use Rattle.kinds.specs.declared.Row.{Row}
-use Rattle.kinds.specs.declared.Item.{Item}
 use Rattle.model.specs.FarmSheet.{FarmSheet}
-use Rattle.model.specs.Row.{boundary, noHead, rowOf, rowAt, inHandAt, inHand, isOpenState, older, heardState}
-use Rattle.model.specs.Stream.{Stream, streamOf, Fed, more, ends, feed, Taken, takesBy, takes, endedBy}
-use Rattle.model.specs.Farm.{Farm, withRow, wrap, closed}
+use Rattle.model.specs.Row.{boundary, noHead, rowOf, rowAt, inHandAt, inHand, older, heardState}
+use Rattle.model.specs.Stream.{Stream, streamOf, Fed, more, ends, feed, takesBy, takes, endedBy}
+use Rattle.model.specs.Farm.{Farm, wrap}
 use Rattle.model.specs.Bytes.{heardRow, heard, takenBy}
 use Rattle.model.specs.Rule.{Good}
-use Rattle.model.specs.Meter.{Log, took, filed, filedBy, isClose, total, sumTo, finishedIn, finishedOn, lostOn, allOn}
+use Rattle.model.specs.Meter.{Log, took, filedBy, finishedIn, finishedOn, lostOn, allOn}
 use Rattle.model.proofs.Cases.{split}
-use Rattle.model.proofs.Rows.{row-put, row-set, row-same, row-map, open-in}
-use Rattle.model.proofs.Balance.{wrap-left, closing, fits-of, takes-balance, hand-open}
+use Rattle.model.proofs.Rows.{row-set, row-same, row-map, open-in}
+use Rattle.model.proofs.Balance.{wrap-left, closing, fits-of, takes-balance}
 use Rattle.model.proofs.MeterFarm.{Laws}
 use Rattle.model.proofs.MeterFarmMove.{Talks, heard-open, heard-hand, Hears}
 use Rattle.model.proofs.MeterFarmStream.{Stands, stands-hand, Lands, takes-lands, lands-hand}
-use Rattle.model.proofs.MeterFarmLog.{sum-same, sum-one, TiedBy, Tied, tied-open, open-tied, tied-hand, tied-still, tied-older, Counted, Logged, counted-same, logged-same, after, filed-quiet, closed-counted, closed-tied, closed-logged}
+use Rattle.model.proofs.MeterFarmLog.{sum-same, sum-one, Tied, tied-open, open-tied, tied-still, tied-older, Counted, Logged, counted-same, logged-same, after, filed-quiet, closed-counted, closed-tied, closed-logged}
 
 -- ---- everything but the taking of bytes
 

@@ -2,13 +2,11 @@
 -- Assumes nothing.
 use Prim.Native.Nat.{ℕ, zero, suc, _+_, _<_}
 use mathlib.Core.Path.{_≡_, refl, sym, ap, subst}
-use mathlib.Core.Bool.{Bool, true, false}
 use mathlib.Core.List.{List, [], _∷_}
 use native.Mathlib.Nat.{add-zero, not-suc-le-zero}
 use native.Mathlib.Omega.{arith}
 use lib.Dec.{eqb, leb}
-use lib.ListN.{getD, set, length, length-set}
-use Rattle.octets.specs.Choice.{unless}
+use lib.ListN.{set, length, length-set}
 use Rattle.sheet.specs.Test.{goodSheet}
 use Rattle.model.specs.FarmSheet.{slotSheet}
 use Rattle.model.specs.Move.{Own, Held, Move, refused, gave, move}

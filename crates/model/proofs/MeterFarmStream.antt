@@ -1,30 +1,27 @@
 -- A row's place in its stream is what the bytes taken since connect say: feeding bytes one by one, the bytes in hand are those after
 -- the last finished message.
 -- Assumes nothing.
-use Prim.Native.Nat.{ℕ, zero, suc, _+_, _-_, _≤_, _<_}
+use Prim.Native.Nat.{ℕ, zero, suc, _+_, _≤_, _<_}
 use mathlib.Core.Path.{_≡_, refl, sym, ap, subst, _∙_}
-use mathlib.Core.Bool.{Bool, true, false, false≢true}
+use mathlib.Core.Bool.{true, false, false≢true}
 use mathlib.Core.List.{List, [], _∷_, _++_, append-assoc, append-nil}
-use native.Mathlib.Nat.{not-suc-le-zero, zero-add}
+use native.Mathlib.Nat.{not-suc-le-zero}
 use native.Mathlib.Omega.{arith}
-use lib.Dec.{eqb, leb, ltb}
-use lib.ListN.{getD, set, length, take, replicate, length-append, length-set, length-replicate, List·getD-append}
-use lib.Seq.{getD-append-seam, getD-set-same, getD-set-other}
+use lib.Dec.{eqb, ltb}
+use lib.ListN.{getD, set, length, take, replicate, length-append, length-set, length-replicate}
 use borrow.Author.Tests.{ltb-true, ltb-false, eqb-true, eqb-false}
-use Rattle.octets.specs.Choice.{pick}
-use Rattle.kinds.specs.declared.Fault.{Fault}
 use Rattle.kinds.specs.declared.Verdict.{Verdict}
 use Rattle.kinds.specs.declared.Verdict.the-variants.{Passes, Wrong}
 use Rattle.kinds.specs.declared.Place.{Place}
 use Rattle.kinds.specs.declared.Place.the-variants.{Header, Reading, Skipping}
 use Rattle.wire.specs.declared.header.Header.{Header as Head}
-use Rattle.wire.specs.Header.{headerSize, headerAt, verdictOf, closes}
+use Rattle.wire.specs.Header.{headerSize, headerAt, verdictOf}
 use Rattle.model.specs.Row.{boundary, noHead, inHandAt}
-use Rattle.model.specs.Stream.{Stream, streamOf, Event, inputEnded, wrong, finished, skipped, Fed, more, ends, rested, afterWrong, judged, feedAt, feed, Taken, takesBy, takes}
+use Rattle.model.specs.Stream.{Stream, Event, inputEnded, finished, skipped, Fed, more, ends, judged, feedAt, feed, takesBy, takes}
 use Rattle.model.specs.Meter.{stops, wholeSize, finishedIn}
 use Rattle.model.proofs.Cases.{pick-case, split}
 use Rattle.model.proofs.Balance.{closing, passes-some}
-use Rattle.model.proofs.MeterFarmCut.{Whole, whole-none, whole-append, whole-message, short-none, part-none, head-same, head-append, cut-stops}
+use Rattle.model.proofs.MeterFarmCut.{Whole, whole-append, whole-message, short-none, part-none, head-same, head-append, cut-stops}
 
 -- ---- the bytes of the message that is not finished, at a place with these header bytes
 

@@ -1,18 +1,18 @@
 -- The three sums over a farm's logs, and the bytes in hand: exact, before any wrapping.
 -- Assumes nothing.
-use Prim.Native.Nat.{ℕ, zero, suc, _+_, _-_, _≤_, _<_}
-use mathlib.Core.Path.{_≡_, refl, sym, ap, subst, _∙_}
-use mathlib.Core.Bool.{Bool, true, false, false≢true}
+use Prim.Native.Nat.{ℕ, zero, suc, _+_, _≤_}
+use mathlib.Core.Path.{_≡_, refl, sym, ap, _∙_}
+use mathlib.Core.Bool.{false, false≢true}
 use mathlib.Core.List.{List, [], _∷_}
 use native.Mathlib.Nat.{add-comm, add-zero, add-suc}
 use native.Mathlib.Omega.{arith}
-use lib.ListN.{getD, length}
+use lib.ListN.{length}
 use Rattle.kinds.specs.declared.RowState.{RowState}
 use Rattle.kinds.specs.declared.RowState.the-variants.{Free, Fresh, Waiting, Active}
 use Rattle.kinds.specs.declared.Place.{Place}
 use Rattle.kinds.specs.declared.Row.{Row}
 use Rattle.model.specs.FarmSheet.{FarmSheet}
-use Rattle.model.specs.Row.{freeRow, rowAt, inHandBy, inHand, isOpenState, isOpen}
+use Rattle.model.specs.Row.{rowAt, inHandBy, inHand, isOpenState, isOpen}
 use Rattle.model.specs.Farm.{Farm}
 use Rattle.model.specs.Meter.{Log, total, sumTo, finishedIn, unfinishedIn, finishedOn, lostOn, allOn, hands}
 use Rattle.model.proofs.MeterFarmCut.{finished-most}

@@ -1,20 +1,18 @@
 -- The logs and meters of one farm after any call on the table.
 -- Assumes nothing.
-use Prim.{Unit, tt}
-use Prim.Native.Nat.{ℕ, zero, suc, _+_, _-_, _≤_, _<_}
+use Prim.Native.Nat.{ℕ, zero, suc, _+_, _-_, _<_}
 use mathlib.Core.Path.{_≡_, refl, sym, ap, subst, _∙_}
-use mathlib.Core.Bool.{Bool, true, false, false≢true}
-use mathlib.Core.List.{List, [], _∷_, _++_}
+use mathlib.Core.Bool.{false}
+use mathlib.Core.List.{List, [], _∷_}
 use native.Mathlib.Nat.{add-zero, zero-add, not-suc-le-zero}
 use native.Mathlib.Omega.{arith}
 use lib.Dec.{eqb, leb, ltb}
-use lib.ListN.{getD, set, length, take, length-set}
+use lib.ListN.{set, length, take}
 use borrow.Author.Tests.{eqb-true, eqb-false, ne-eqb, ltb-true, leb-true, lt-ltb}
 use Rattle.octets.specs.declared.Found.{Found}
 use Rattle.octets.specs.declared.Found.the-variants.{At, Nothing}
 use Rattle.octets.specs.Choice.{pick, both}
 use Rattle.octets.specs.Search.{firstAt}
-use Rattle.kinds.specs.declared.FarmNo.{FarmNo}
 use Rattle.kinds.specs.declared.Item.{Item}
 use Rattle.sheet.specs.declared.rows.Owner.{Owner}
 use Rattle.sheet.specs.declared.rows.Owner.the-variants.{Seat, Nobody}
@@ -23,12 +21,11 @@ use Rattle.sheet.specs.Rows.{rowsOwned, firstRow, ownerOf}
 use Rattle.sheet.proofs.RowsLaws.{IsSeat, rows-apart, owner-seat}
 use Rattle.model.specs.FarmSheet.{FarmSheet, farmSheet, slotSheet}
 use Rattle.model.specs.Row.{isFree}
-use Rattle.model.specs.Farm.{Farm}
 use Rattle.model.specs.Move.{Own, connect, bytes, peerClosed, linkLost, datagram, controller, Held, Given, Move, refused, gave, noRow, connectedAt, connects, ticked, move, tickMove}
 use Rattle.model.specs.Rule.{Good}
-use Rattle.model.specs.Table.{Table, slot, Call, connectTo, bytesFrom, peerClosedOn, linkLostOf, tick, datagramTo, messageFrom, Whose, nobodys, farms, everyones, ofOwner, whose, Outcome, refuses, did, movedTo, heldBy, itemsBy, slotTick, tickTable, tickItems, called, tableOf}
+use Rattle.model.specs.Table.{Table, slot, Call, connectTo, bytesFrom, peerClosedOn, linkLostOf, tick, datagramTo, messageFrom, Whose, nobodys, farms, everyones, ofOwner, whose, Outcome, refuses, movedTo, itemsBy, slotTick, tickItems, called, tableOf}
 use Rattle.model.specs.History.{Made, stepOf}
-use Rattle.model.specs.Meter.{Said, turnedAway, gives, Log, took, begun, filedBy, bytesOn, isConnect, ownsRow, tookOn, takenBy, notedBy, saidBy}
+use Rattle.model.specs.Meter.{gives, Log, took, filedBy, bytesOn, isConnect, ownsRow, tookOn, takenBy, notedBy, saidBy}
 use Rattle.model.proofs.Cases.{pick-case, split}
 use Rattle.model.proofs.MeterFarmMove.{Got, opens-at}
 use Rattle.model.proofs.MeterFarmLog.{Logged, logged-same, after, filed-append}

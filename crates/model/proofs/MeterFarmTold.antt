@@ -1,15 +1,15 @@
 -- The logs and meters of a farm after each of its own calls, and that no call of a farm closes a row of another.
 -- Assumes nothing.
 use Prim.{Unit, tt}
-use Prim.Native.Nat.{ℕ, zero, suc, _+_, _-_, _≤_, _<_}
+use Prim.Native.Nat.{ℕ, _+_, _<_}
 use mathlib.Core.Path.{_≡_, refl, sym, ap, subst, _∙_}
-use mathlib.Core.Bool.{Bool, true, false, false≢true}
-use mathlib.Core.List.{List, [], _∷_, _++_, append-nil, map}
+use mathlib.Core.Bool.{true, false, false≢true}
+use mathlib.Core.List.{List, [], _∷_, _++_, append-nil}
 use native.Mathlib.Nat.{add-zero}
 use native.Mathlib.Omega.{arith}
-use lib.Dec.{eqb, leb, ltb}
-use lib.ListN.{getD, set, length, take}
-use borrow.Author.Tests.{eqb-true, eqb-false, eq-eqb, ne-eqb, le-leb, lt-ltb}
+use lib.Dec.{eqb}
+use lib.ListN.{getD, take}
+use borrow.Author.Tests.{eqb-true, eq-eqb, ne-eqb, le-leb, lt-ltb}
 use Rattle.octets.specs.declared.Found.{Found}
 use Rattle.octets.specs.declared.Found.the-variants.{At, Nothing}
 use Rattle.octets.specs.Choice.{pick, both}
@@ -17,7 +17,6 @@ use Rattle.octets.specs.Search.{firstAt}
 use Rattle.kinds.specs.declared.RowState.{RowState}
 use Rattle.kinds.specs.declared.RowState.the-variants.{Free, Fresh, Waiting, Active}
 use Rattle.kinds.specs.declared.Place.{Place}
-use Rattle.kinds.specs.declared.Row.{Row}
 use Rattle.kinds.specs.declared.Item.{Item}
 use Rattle.kinds.specs.declared.Reply.the-variants.{Close}
 use Rattle.model.specs.FarmSheet.{FarmSheet}
@@ -26,12 +25,12 @@ use Rattle.model.specs.Farm.{Farm, withRow, says, closed}
 use Rattle.model.specs.Bytes.{heard, takenBy}
 use Rattle.model.specs.Move.{Own, connect, bytes, peerClosed, linkLost, datagram, controller, Held, Move, refused, gave, connectedAt, connects, bytesBy, ticked, move}
 use Rattle.model.specs.Rule.{Good}
-use Rattle.model.specs.Table.{Call, connectTo, bytesFrom, peerClosedOn, linkLostOf, tick, datagramTo, messageFrom}
-use Rattle.model.specs.Meter.{Log, took, begun, filed, filedBy, isClose, bytesOn, isConnect, ownsRow, tookOn}
-use Rattle.model.proofs.Cases.{pick-case, split}
+use Rattle.model.specs.Table.{Call, connectTo, bytesFrom, peerClosedOn, linkLostOf, datagramTo, messageFrom}
+use Rattle.model.specs.Meter.{Log, took, begun, filedBy, isClose, bytesOn, isConnect, ownsRow, tookOn}
+use Rattle.model.proofs.Cases.{pick-case}
 use Rattle.model.proofs.MeterFarm.{Laws, open-below}
-use Rattle.model.proofs.MeterFarmMove.{Talks, Got, Hears, bytes-got, Opens, opens-at, connect-got, peer-got, link-got, datagram-got, message-got, tick-keeps}
-use Rattle.model.proofs.MeterFarmLog.{TiedBy, Tied, Logged, logged-same, after, filed-append, filed-quiet}
+use Rattle.model.proofs.MeterFarmMove.{Got, bytes-got, opens-at, connect-got, peer-got, link-got, datagram-got, message-got, tick-keeps}
+use Rattle.model.proofs.MeterFarmLog.{TiedBy, Logged, logged-same, after, filed-append, filed-quiet}
 use Rattle.model.proofs.MeterFarmNote.{logged-laws, Notes, hears-logged}
 
 -- ---- no closing on a row that is not the farm's

@@ -2,26 +2,22 @@
 -- Assumes nothing.
 use Prim.Native.Nat.{ℕ, zero, suc, _+_, _≤_, _<_}
 use mathlib.Core.Path.{_≡_, refl, sym, ap, subst, _∙_}
-use mathlib.Core.Bool.{Bool, true, false}
 use mathlib.Core.List.{List, [], _∷_}
 use native.Mathlib.Nat.{add-zero, zero-add, add-assoc}
 use native.Mathlib.Omega.{arith}
-use lib.Dec.{eqb, leb, ltb}
-use lib.ListN.{getD, set, length, replicate}
-use borrow.Author.Tests.{ltb-true}
-use Rattle.octets.specs.Choice.{pick, unless}
+use lib.Dec.{ltb}
+use lib.ListN.{length, replicate}
 use Rattle.kinds.specs.declared.Row.{Row}
 use Rattle.sheet.specs.Sheet.{farmCount}
-use Rattle.sheet.specs.Test.{goodSheet}
 use Rattle.model.specs.FarmSheet.{FarmSheet, slotSheet}
 use Rattle.model.specs.Row.{freeRow, rowAt}
-use Rattle.model.specs.Farm.{Farm, seatCount, newFarm, wrap}
-use Rattle.model.specs.Move.{Own, Held, Move, refused, gave, move, tickMove}
+use Rattle.model.specs.Farm.{seatCount, newFarm, wrap}
+use Rattle.model.specs.Move.{Held, Move, tickMove}
 use Rattle.model.specs.Rule.{Good}
-use Rattle.model.specs.Table.{Table, noHeld, slot, Lent, leastOutput, assemblingSize, Whose, nobodys, farms, everyones, whose, Outcome, refuses, did, movedTo, heldBy, slotTick, tickTable, called, goodTable, step, tableOf}
+use Rattle.model.specs.Table.{Table, slot, heldBy, slotTick, tableOf}
 use Rattle.model.specs.History.{Made, fresh, stepOf, run}
 use Rattle.model.specs.Meter.{notesOf, saidBy, Log, noLog, notedBy, logFrom, finishedUpTo, total, sumTo, takenBy, takenOf, finishedOf, lostOf, logOf, hands, Differs, Balanced, MetersAre}
-use Rattle.model.proofs.Cases.{pick-case, unless-case}
+use Rattle.model.proofs.Cases.{pick-case}
 use Rattle.model.proofs.MeterFarmSlot.{step-slot, step-length}
 use Rattle.model.proofs.MeterFarmLog.{Tied, Logged}
 use Rattle.model.proofs.MeterFarmSums.{exact}
