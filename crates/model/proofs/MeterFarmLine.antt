@@ -108,11 +108,11 @@ module _ {own : FarmSheet} {Q : List Item → Farm → Type 0} (laws : Laws own 
       (let y = lines-keeps laws is f (head ∷ without seat rest) (f .clock) (f .marks) k in
       record {
         keeps =
-          record {
-            holds = y .holds;
-            clear = next (clear-below (k .clear)) (clear-first (k .clear)) (clear-without seat (clear-rest (k .clear)));
-            within = k .within;
-          };
+            record {
+              holds = y .holds;
+              clear = next (clear-below (k .clear)) (clear-first (k .clear)) (clear-without seat (clear-rest (k .clear)));
+              within = k .within;
+            };
       }))
 
   pub ready-left : (is : List Item) (seat : ℕ) (f : Farm) → Ready own Q is f → Then (Ready own Q) is (left own seat f)

@@ -194,14 +194,14 @@ module _ (own : FarmSheet) (T : ℕ) (is : List Item) (L : ℕ → Log) (seat : 
       record {
         taken = closed-taken own seat f ∙ c .taken;
         finished =
-          closed-finished own seat f ∙ c .finished ∙
-          ap wrap (sym (kept-sum finishedOn filed-finished));
+            closed-finished own seat f ∙ c .finished ∙
+            ap wrap (sym (kept-sum finishedOn filed-finished));
         lost =
-          closed-lost own seat f ∙ ap (λ (n : ℕ). wrap (n + inHand (rowAt (f .rows) seat))) (c .lost) ∙ wrap-left _ _ ∙
-          ap wrap
-          (sym (sum-one (λ i. lostOn (after own is L i)) (λ i. lostOn (after own (is ++ closed own seat f .items) L i)) seat
-          (inHand (rowAt (f .rows) seat)) (own .rows) b (λ i n. ap lostOn (closes-other own is seat i f (L i) n))
-          (ap lostOn (closes-this own is seat f (L seat)) ∙ filed-lost (after own is L seat) (inHand (rowAt (f .rows) seat)) h)));
+            closed-lost own seat f ∙ ap (λ (n : ℕ). wrap (n + inHand (rowAt (f .rows) seat))) (c .lost) ∙ wrap-left _ _ ∙
+            ap wrap
+            (sym (sum-one (λ i. lostOn (after own is L i)) (λ i. lostOn (after own (is ++ closed own seat f .items) L i)) seat
+            (inHand (rowAt (f .rows) seat)) (own .rows) b (λ i n. ap lostOn (closes-other own is seat i f (L i) n))
+            (ap lostOn (closes-this own is seat f (L seat)) ∙ filed-lost (after own is L seat) (inHand (rowAt (f .rows) seat)) h)));
         each = c .each ∙ sym (kept-sum allOn filed-all);
       }
     where
@@ -231,6 +231,6 @@ module _ (own : FarmSheet) (T : ℕ) (is : List Item) (L : ℕ → Log) (seat : 
   closed-logged h =
       record {
         counted =
-          closed-counted (tied-hand (rowAt (f .rows) seat .state) (rowAt (f .rows) seat .place) (rowAt (f .rows) seat .head) _ (h .tied seat b)) (h .counted);
+            closed-counted (tied-hand (rowAt (f .rows) seat .state) (rowAt (f .rows) seat .place) (rowAt (f .rows) seat .head) _ (h .tied seat b)) (h .counted);
         tied = closed-tied (λ i l _. h .tied i l);
       }

@@ -70,11 +70,11 @@ module _ {own : FarmSheet} {f : Farm} (good : Good own f) where
   good-ready q =
       record {
         keeps =
-          record {
-            holds = q;
-            clear = clear-of (own .rows) (f .rows) (f .line) (λ i h. (line-own i h, line-hand i h));
-            within = good .within;
-          };
+            record {
+              holds = q;
+              clear = clear-of (own .rows) (f .rows) (f .line) (λ i h. (line-own i h, line-hand i h));
+              within = good .within;
+            };
       }
 
 -- ---- a bytes call
@@ -99,10 +99,12 @@ module _ {own : FarmSheet} {f : Farm} (good : Good own f) (seat : ℕ) (talks : 
   unfolding heard
   heard-clear =
       clear-of (own .rows) _ (f .line)
-      (λ i h. (line-own good i h,
-      row-put (f .rows) seat i _ (open-in (f .rows) seat (talks .0)) (λ y. inHand y ≡ 0)
-      (λ e. absurd (false≢true (sym (talks .1) ∙ ap (λ (k : ℕ). isWaiting (rowAt (f .rows) k)) (sym e) ∙ line-waits good i h .1)))
-      (λ _. line-hand good i h)))
+      (λ i h. (
+        line-own good i h,
+        row-put (f .rows) seat i _ (open-in (f .rows) seat (talks .0)) (λ y. inHand y ≡ 0)
+            (λ e. absurd (false≢true (sym (talks .1) ∙ ap (λ (k : ℕ). isWaiting (rowAt (f .rows) k)) (sym e) ∙ line-waits good i h .1)))
+            (λ _. line-hand good i h),
+      ))
 
   heard-within : (i : ℕ) → own .rows ≤ i → isOpen (rowAt (heard seat t f .rows) i) ≡ false
   unfolding heard
@@ -322,11 +324,11 @@ module _ {own : FarmSheet} {Q : List Item → Farm → Type 0} (laws : Laws own 
   aged-ready f k =
       record {
         keeps =
-          record {
-            holds = laws .ages [] f (k .keeps .holds);
-            clear = clear-older (k .keeps .clear);
-            within = λ i h. ap isOpen (row-map older refl (f .rows) i) ∙ older-open (rowAt (f .rows) i .state) ∙ k .keeps .within i h;
-          };
+            record {
+              holds = laws .ages [] f (k .keeps .holds);
+              clear = clear-older (k .keeps .clear);
+              within = λ i h. ap isOpen (row-map older refl (f .rows) i) ∙ older-open (rowAt (f .rows) i .state) ∙ k .keeps .within i h;
+            };
       }
 
   pub tick-keeps : (f : Farm) → Good own f → Q [] f → Then Q [] (ticked own f)

@@ -31,29 +31,29 @@ logged-laws own T L =
     record {
       closes = λ is seat f b h. closed-logged own T is L seat b f h;
       puts =
-        λ is seat s f b o e h.
-        record {
-          counted = record { taken = h .counted .taken; finished = h .counted .finished; lost = h .counted .lost; each = h .counted .each };
-          tied =
-            λ i l.
-            row-set (f .rows) seat i (rowOf s) (λ (y : Row). Tied y (after own is L i))
-            (λ z _. subst (λ (k : ℕ). Tied (rowOf s) (after own is L k)) (sym z)
-            (tied-open s boundary noHead (after own is L seat .now) o
-            (tied-still (rowAt (f .rows) seat .state) (rowAt (f .rows) seat .place) (rowAt (f .rows) seat .head) (after own is L seat .now) (h .tied seat b) e)))
-            (h .tied i l);
-        };
+          λ is seat s f b o e h.
+          record {
+            counted = record { taken = h .counted .taken; finished = h .counted .finished; lost = h .counted .lost; each = h .counted .each };
+            tied =
+                λ i l.
+                row-set (f .rows) seat i (rowOf s) (λ (y : Row). Tied y (after own is L i))
+                (λ z _. subst (λ (k : ℕ). Tied (rowOf s) (after own is L k)) (sym z)
+                (tied-open s boundary noHead (after own is L seat .now) o
+                (tied-still (rowAt (f .rows) seat .state) (rowAt (f .rows) seat .place) (rowAt (f .rows) seat .head) (after own is L seat .now) (h .tied seat b) e)))
+                (h .tied i l);
+          };
       speaks = λ is it f e h. logged-same own T (after own is L) (after own (is ++ (it ∷ [])) L) f (λ i _. filed-quiet (own .first + i) is it (L i) e) h;
       lines =
-        λ is f line clock marks h.
-        record { counted = record { taken = h .counted .taken; finished = h .counted .finished; lost = h .counted .lost; each = h .counted .each }; tied = h .tied };
+          λ is f line clock marks h.
+          record { counted = record { taken = h .counted .taken; finished = h .counted .finished; lost = h .counted .lost; each = h .counted .each }; tied = h .tied };
       ages =
-        λ is f h.
-        record {
-          counted = record { taken = h .counted .taken; finished = h .counted .finished; lost = h .counted .lost; each = h .counted .each };
-          tied =
-            λ i l. subst (λ (y : Row). Tied y (after own is L i)) (sym (row-map older refl (f .rows) i))
-            (tied-older (rowAt (f .rows) i .state) (rowAt (f .rows) i .place) (rowAt (f .rows) i .head) (after own is L i .now) (h .tied i l));
-        };
+          λ is f h.
+          record {
+            counted = record { taken = h .counted .taken; finished = h .counted .finished; lost = h .counted .lost; each = h .counted .each };
+            tied =
+                λ i l. subst (λ (y : Row). Tied y (after own is L i)) (sym (row-map older refl (f .rows) i))
+                (tied-older (rowAt (f .rows) i .state) (rowAt (f .rows) i .place) (rowAt (f .rows) i .head) (after own is L i .now) (h .tied i l));
+          };
     }
 
 -- ---- the taking of bytes
@@ -118,21 +118,21 @@ module _ {own : FarmSheet} {f : Farm} (good : Good own f) (seat : ℕ) (b : seat
       record {
         taken = ap (λ (n : ℕ). wrap (n + takes s input .count)) (h .counted .taken) ∙ wrap-left T (takes s input .count);
         finished =
-          ap (λ (n : ℕ). wrap (n + endedBy (takes s input .event) (takes s input .stream))) (h .counted .finished) ∙ wrap-left _ _ ∙
-          ap wrap
-          (sym (sum-one (λ i. finishedOn (L i)) (λ i. finishedOn (M i)) seat (endedBy (takes s input .event) (takes s input .stream)) (own .rows) b
-          (λ i n. ap finishedOn (notes .others i n))
-          (ap finishedOn (notes .this) ∙
-          took-finished (L seat) (take (takes s input .count) input) (endedBy (takes s input .event) (takes s input .stream)) finished-more)));
+            ap (λ (n : ℕ). wrap (n + endedBy (takes s input .event) (takes s input .stream))) (h .counted .finished) ∙ wrap-left _ _ ∙
+            ap wrap
+            (sym (sum-one (λ i. finishedOn (L i)) (λ i. finishedOn (M i)) seat (endedBy (takes s input .event) (takes s input .stream)) (own .rows) b
+            (λ i n. ap finishedOn (notes .others i n))
+            (ap finishedOn (notes .this) ∙
+            took-finished (L seat) (take (takes s input .count) input) (endedBy (takes s input .event) (takes s input .stream)) finished-more)));
         lost =
-          h .counted .lost ∙
-          ap wrap
-          (sym (sum-same (λ i. lostOn (L i)) (λ i. lostOn (M i)) (own .rows)
-          (λ i _. split (eqb i seat) (λ t. same i (eqb-true i seat t)) (λ t. ap lostOn (notes .others i (eqb-false i seat t))))));
+            h .counted .lost ∙
+            ap wrap
+            (sym (sum-same (λ i. lostOn (L i)) (λ i. lostOn (M i)) (own .rows)
+            (λ i _. split (eqb i seat) (λ t. same i (eqb-true i seat t)) (λ t. ap lostOn (notes .others i (eqb-false i seat t))))));
         each =
-          ap (λ (n : ℕ). n + takes s input .count) (h .counted .each) ∙
-          sym (sum-one (λ i. allOn (L i)) (λ i. allOn (M i)) seat (takes s input .count) (own .rows) b (λ i n. ap allOn (notes .others i n))
-          (ap allOn (notes .this) ∙ took-all (L seat) (take (takes s input .count) input) (takes s input .count) (takes-some s input)));
+            ap (λ (n : ℕ). n + takes s input .count) (h .counted .each) ∙
+            sym (sum-one (λ i. allOn (L i)) (λ i. allOn (M i)) seat (takes s input .count) (own .rows) b (λ i n. ap allOn (notes .others i n))
+            (ap allOn (notes .this) ∙ took-all (L seat) (take (takes s input .count) input) (takes s input .count) (takes-some s input)));
       }
     where
       same : (i : ℕ) → i ≡ seat → lostOn (M i) ≡ lostOn (L i)
@@ -162,9 +162,9 @@ module _ {own : FarmSheet} {f : Farm} (good : Good own f) (seat : ℕ) (b : seat
       record {
         counted = heard-counted;
         tied =
-          λ i l. split (eqb i seat)
-          (λ t. subst (λ (k : ℕ). Tied (rowAt (heard seat (takes s input) f .rows) k) (M k)) (sym (eqb-true i seat t)) (heard-this c))
-          (λ t. heard-others i l (eqb-false i seat t));
+            λ i l. split (eqb i seat)
+            (λ t. subst (λ (k : ℕ). Tied (rowAt (heard seat (takes s input) f .rows) k) (M k)) (sym (eqb-true i seat t)) (heard-this c))
+            (λ t. heard-others i l (eqb-false i seat t));
       }
 
   -- after a header that closes, all bytes are finished and none is in hand
@@ -181,15 +181,15 @@ module _ {own : FarmSheet} {f : Farm} (good : Good own f) (seat : ℕ) (b : seat
       record {
         goes = heard-logged;
         shuts =
-          λ _ it e.
-          let same : (i : ℕ) → filedBy (own .first + i) (it ∷ []) (M i) ≡ M i = λ i. filed-quiet (own .first + i) [] it (M i) e in
-          record {
-            counted =
-              closed-counted own (T + takes s input .count) (it ∷ []) M seat b (heard seat (takes s input) f)
-              (subst (λ (x : Log). finishedIn (x .now) + inHand (rowAt (heard seat (takes s input) f .rows) seat) ≡ length (x .now)) (sym (same seat)) shut-hand)
-              (counted-same own (T + takes s input .count) M (after own (it ∷ []) M) (heard seat (takes s input) f) (λ i _. same i) heard-counted);
-            tied =
-              closed-tied own (T + takes s input .count) (it ∷ []) M seat b (heard seat (takes s input) f)
-              (λ i l n. subst (Tied (rowAt (heard seat (takes s input) f .rows) i)) (sym (same i)) (heard-others i l n));
-          };
+            λ _ it e.
+            let same : (i : ℕ) → filedBy (own .first + i) (it ∷ []) (M i) ≡ M i = λ i. filed-quiet (own .first + i) [] it (M i) e in
+            record {
+              counted =
+                  closed-counted own (T + takes s input .count) (it ∷ []) M seat b (heard seat (takes s input) f)
+                  (subst (λ (x : Log). finishedIn (x .now) + inHand (rowAt (heard seat (takes s input) f .rows) seat) ≡ length (x .now)) (sym (same seat)) shut-hand)
+                  (counted-same own (T + takes s input .count) M (after own (it ∷ []) M) (heard seat (takes s input) f) (λ i _. same i) heard-counted);
+              tied =
+                  closed-tied own (T + takes s input .count) (it ∷ []) M seat b (heard seat (takes s input) f)
+                  (λ i l n. subst (Tied (rowAt (heard seat (takes s input) f .rows) i)) (sym (same i)) (heard-others i l n));
+            };
       }

@@ -140,27 +140,27 @@ module _ (log whole part : List ℕ) (cut : log ≡ whole ++ part) (isWhole : Wh
         cut = cut;
         isWhole = isWhole;
         at =
-          record { size = l; short = passes-some (headerAt part 0) v; goes = ap stops v; heads = h };
+            record { size = l; short = passes-some (headerAt part 0) v; goes = ap stops v; heads = h };
       }
   judged-lands (Wrong fault) head room v h l =
       record {
         goes =
-          λ c. rw c
-          (pick-case (λ (s : Stream). Stands log (s .place) (s .head)) (eqb (headerAt head 0 .length) 0) _ _
-          (λ z. message-over (omega arith) (ap stops v ∙ c) (l ∙ omega (arith, eqb-true (headerAt head 0 .length) 0 z, ap (λ (x : Head). x .length) h)))
-          (λ z. record {
-            whole = whole;
-            part = part;
-            cut = cut;
-            isWhole = isWhole;
-            at =
-              record {
-                size = l;
-                short = some-left (headerAt part 0 .length) (λ n. eqb-false (headerAt head 0 .length) 0 z (ap (λ (x : Head). x .length) h ∙ n));
-                goes = ap stops v ∙ c;
-                heads = h;
-              };
-          }));
+            λ c. rw c
+            (pick-case (λ (s : Stream). Stands log (s .place) (s .head)) (eqb (headerAt head 0 .length) 0) _ _
+            (λ z. message-over (omega arith) (ap stops v ∙ c) (l ∙ omega (arith, eqb-true (headerAt head 0 .length) 0 z, ap (λ (x : Head). x .length) h)))
+            (λ z. record {
+              whole = whole;
+              part = part;
+              cut = cut;
+              isWhole = isWhole;
+              at =
+                  record {
+                    size = l;
+                    short = some-left (headerAt part 0 .length) (λ n. eqb-false (headerAt head 0 .length) 0 z (ap (λ (x : Head). x .length) h ∙ n));
+                    goes = ap stops v ∙ c;
+                    heads = h;
+                  };
+            }));
         over = λ c. rw c (all-over (ap stops v ∙ c) l, refl);
       }
     where

@@ -72,7 +72,7 @@ move-quiet own h (bytes seat input) good =
     (λ w. record {
       goes = λ _. quiet-none own;
       shuts = λ _ it e. quiet-closes own (it ∷ []) seat (heard seat (takenBy seat (getD (h .rooms) seat []) input (h .farm)) (h .farm))
-      (open-below own (h .farm) (good .within) seat (w .0)) (quiet-speaks own [] it e (quiet-none own));
+          (open-below own (h .farm) (good .within) seat (w .0)) (quiet-speaks own [] it e (quiet-none own));
     })
 move-quiet own h (peerClosed seat) good = peer-got (quiet-laws own) h good seat (quiet-none own)
 move-quiet own h linkLost good = link-got (quiet-laws own) h good (quiet-none own)

@@ -102,14 +102,15 @@ unfolding newFarm finishedUpTo total
 new-logged own =
     record {
       counted =
-        record {
-          taken = refl;
-          finished = ap wrap (sym (none-sum (own .rows)));
-          lost = ap wrap (sym (none-sum (own .rows)));
-          each = sym (none-sum (own .rows));
-        };
+          record {
+            taken = refl;
+            finished = ap wrap (sym (none-sum (own .rows)));
+            lost = ap wrap (sym (none-sum (own .rows)));
+            each = sym (none-sum (own .rows));
+          };
       tied = λ i h. subst (λ (r : Row). Tied r noLog) (sym (free-rows seatCount i)) refl;
     }
+
 -- THE METER EQUATION: "taken equals finished plus lost plus the bytes in hand on open rows, modulo 2^32", after every history from a
 -- fresh table under one sheet, for every farm.
 module _ (s : List ℕ) (rooms : List (List (List ℕ)))
