@@ -19,7 +19,7 @@ use Rattle.kinds.specs.declared.Reply.the-variants.{Close}
 use Rattle.model.specs.FarmSheet.{FarmSheet}
 use Rattle.model.specs.Row.{boundary, noHead, freeRow, rowAt, inHandBy, inHand, isOpenState, olderState}
 use Rattle.model.specs.Farm.{Farm, wrap, says, closed}
-use Rattle.model.specs.Meter.{Log, filed, filedBy, isClose, total, sumTo, finishedUpTo, finishedIn, finishedOn, lostOn, allOn}
+use Rattle.model.specs.Meter.{Log, filed, filedBy, isClose, total, sumTo, finishedUpTo, finishedIn, finishedOn, lostOn}
 use Rattle.model.proofs.Cases.{split}
 use Rattle.model.proofs.Rows.{row-other}
 use Rattle.model.proofs.Seats.{closed-rows}
@@ -98,6 +98,10 @@ tied-older (Waiting q) p head now h = h
 tied-older (Active a c) p head now h = h
 
 -- ---- a farm and the logs of its rows, by seat
+
+-- all that was ever taken from a row
+abbrev pub allOn : Log → ℕ
+allOn l = length (l .now) + total length (l .ended)
 
 -- the meters are the sums over the logs, wrapped; T bytes were taken
 pub record Counted (own : FarmSheet) (T : ℕ) (L : ℕ → Log) (f : Farm) : Type 0 where

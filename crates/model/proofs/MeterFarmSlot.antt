@@ -24,6 +24,9 @@ step-cases P s t m r c =
     (λ _. unless-case P (eqb (m .lent .assembling) assemblingSize) _ _ (λ _. r 3)
     (λ _. unless-case P (goodTable s t) _ _ (λ _. r 4) (λ _. c))))
 
+pub next-one : (a b : ℕ) → a + suc b ≡ suc a + b
+next-one a b = omega arith
+
 pub slot-set : (P : Held → Type 0) (t : Table) (f g : ℕ) (h : Held) → (f ≡ g → P h) → P (slot t g) → P (slot (set t f h) g)
 slot-set P [] f g h a b = b
 slot-set P (x ∷ t) zero zero h a b = a refl
@@ -36,10 +39,7 @@ pub slot-tick : (P : Held → Type 0) (s : List ℕ) (k : ℕ) (t : Table) (g : 
 slot-tick P s k [] g a b = b
 slot-tick P s k (x ∷ t) zero a b = subst (λ (n : ℕ). P (heldBy x (slotTick s n x))) (add-zero k) a
 slot-tick P s k (x ∷ t) (suc g) a b =
-    slot-tick P s (suc k) t g (subst (λ (n : ℕ). P (heldBy (slot t g) (slotTick s n (slot t g)))) (turn k g) a) b
-  where
-    turn : (a b : ℕ) → a + suc b ≡ suc a + b
-    turn a b = omega arith
+    slot-tick P s (suc k) t g (subst (λ (n : ℕ). P (heldBy (slot t g) (slotTick s n (slot t g)))) (next-one k g) a) b
 
 -- the same where the table has the slot
 pub slot-ticked : (P : Held → Type 0) (s : List ℕ) (k : ℕ) (t : Table) (g : ℕ) → g < length t → P (heldBy (slot t g) (slotTick s (k + g) (slot t g)))
@@ -47,10 +47,7 @@ pub slot-ticked : (P : Held → Type 0) (s : List ℕ) (k : ℕ) (t : Table) (g 
 slot-ticked P s k [] g l a = absurd (not-suc-le-zero l)
 slot-ticked P s k (x ∷ t) zero l a = subst (λ (n : ℕ). P (heldBy x (slotTick s n x))) (add-zero k) a
 slot-ticked P s k (x ∷ t) (suc g) l a =
-    slot-ticked P s (suc k) t g (omega arith) (subst (λ (n : ℕ). P (heldBy (slot t g) (slotTick s n (slot t g)))) (turn k g) a)
-  where
-    turn : (a b : ℕ) → a + suc b ≡ suc a + b
-    turn a b = omega arith
+    slot-ticked P s (suc k) t g (omega arith) (subst (λ (n : ℕ). P (heldBy (slot t g) (slotTick s n (slot t g)))) (next-one k g) a)
 
 -- no call changes how many slots there are
 tick-length : (s : List ℕ) (k : ℕ) (t : Table) → length (tickTable s k t) ≡ length t

@@ -14,9 +14,9 @@ use Rattle.kinds.specs.declared.Row.{Row}
 use Rattle.model.specs.FarmSheet.{FarmSheet}
 use Rattle.model.specs.Row.{rowAt, inHandBy, inHand, isOpenState, isOpen}
 use Rattle.model.specs.Farm.{Farm}
-use Rattle.model.specs.Meter.{Log, total, sumTo, finishedIn, unfinishedIn, finishedOn, lostOn, allOn, hands}
+use Rattle.model.specs.Meter.{Log, total, sumTo, finishedIn, unfinishedIn, finishedOn, lostOn, hands}
 use Rattle.model.proofs.MeterFarmCut.{finished-most}
-use Rattle.model.proofs.MeterFarmLog.{sum-same, Tied, tied-hand, Logged}
+use Rattle.model.proofs.MeterFarmLog.{allOn, sum-same, Tied, tied-hand, Logged}
 
 -- ---- sums
 

@@ -30,7 +30,7 @@ use Rattle.model.proofs.Cases.{pick-case, split}
 use Rattle.model.proofs.MeterFarmMove.{Got, opens-at}
 use Rattle.model.proofs.MeterFarmLog.{Logged, logged-same, after, filed-append}
 use Rattle.model.proofs.MeterFarmTold.{Foreign, Quiet, move-quiet, tick-quiet, Told, took-none, told-peer, told-link, told-datagram, told-message, told-connect, told-bytes, told-tick}
-use Rattle.model.proofs.MeterFarmSlot.{step-cases, slot-set, slot-ticked}
+use Rattle.model.proofs.MeterFarmSlot.{next-one, step-cases, slot-set, slot-ticked}
 
 -- ---- the rows of two farms differ
 
@@ -82,10 +82,7 @@ module _ (s : List ℕ) (k : ℕ) (h : Held) (u : Table) (goods : (f : ℕ) → 
   first-good b = subst (λ (f : ℕ). Good (slotSheet s f) (h .farm)) (add-zero k) (goods 0 (omega arith))
 
   rest-good : (f : ℕ) → suc k + f < farmCount s → Good (slotSheet s (suc k + f)) (slot u f .farm)
-  rest-good f b = subst (λ (n : ℕ). Good (slotSheet s n) (slot u f .farm)) (turn k f) (goods (suc f) (omega arith))
-    where
-      turn : (a b : ℕ) → a + suc b ≡ suc a + b
-      turn a b = omega arith
+  rest-good f b = subst (λ (n : ℕ). Good (slotSheet s n) (slot u f .farm)) (next-one k f) (goods (suc f) (omega arith))
 
 module _ (s : List ℕ) (g : ℕ) (isFarm : g < farmCount s) (i : ℕ) (l : i < slotSheet s g .rows) where
   slot-quiet : (f : ℕ) (h : Held) → (f < farmCount s → Good (slotSheet s f) (h .farm)) → (f ≡ g → ⊥) → (x : Log)

@@ -1,6 +1,7 @@
 -- Meters: "Per farm, u32, wrapping on purpose: taken (bytes taken), finished (8 plus payload for each message wholly read or skipped; 8
 -- for a header that closes), lost (bytes of an unfinished message when its row closes). Each is defined from the history of calls by
--- itself." No definition below knows a table or a move: the meters are read off calls and their answers.
+-- itself." They are read off a day's notes, the calls and their answers, by the header rules alone: only `notesOf` runs the model, to
+-- have the answers, and nothing below it knows a table, a place in a stream or a move.
 -- Assumes nothing: these are definitions.
 use Prim.Native.Nat.{ℕ, zero, suc, _+_, _-_}
 use mathlib.Core.Path.{_≡_}
@@ -38,6 +39,7 @@ pub record Note : Type 0 where
   pub call : Call
   pub said : Said
 
+-- the notes of a history
 unfoldable pub notesOf : List ℕ → Table → List Made → List Note
 notesOf s t [] = []
 notesOf s t (m ∷ ms) = record { call = m .call; said = saidBy (stepOf s t m) } ∷ notesOf s (tableOf t (stepOf s t m)) ms
@@ -79,6 +81,7 @@ pub record Log : Type 0 where
 abbrev pub noLog : Log
 noLog = record { now = []; ended = [] }
 
+-- bytes are taken; a connection begins; it ends
 abbrev pub took : List ℕ → Log → Log
 took bytes l = record { now = l .now ++ bytes; ended = l .ended }
 
@@ -141,6 +144,7 @@ logOf r ns = logFrom r noLog ns
 
 -- ---- the three meters of a farm, before wrapping
 
+-- over the connections of a row that have ended
 unfoldable pub total : (List ℕ → ℕ) → List (List ℕ) → ℕ
 total f [] = 0
 total f (l ∷ ls) = f l + total f ls
@@ -179,10 +183,6 @@ finishedOn l = finishedIn (l .now) + total finishedIn (l .ended)
 abbrev pub lostOn : Log → ℕ
 lostOn l = total unfinishedIn (l .ended)
 
--- all that was ever taken from a row
-abbrev pub allOn : Log → ℕ
-allOn l = length (l .now) + total length (l .ended)
-
 -- over the farm's rows
 abbrev pub finishedOf : FarmSheet → List Note → ℕ
 finishedOf own ns = sumTo (λ i. finishedOn (logOf (own .first + i) ns)) (own .rows)
@@ -204,10 +204,9 @@ unfoldable pub hands : List Row → ℕ
 hands [] = 0
 hands (r ∷ rows) = inHand r + hands rows
 
--- the two sides differ by d
+-- the two sides differ by d: what each call keeps, on any table that keeps rule 4
 abbrev pub Differs : ℕ → Farm → Type 0
 Differs d f = wrap (f .meters .taken + d) ≡ wrap (f .meters .finished + (f .meters .lost + hands (f .rows)))
 
--- "taken equals finished plus lost plus the bytes in hand on open rows, modulo 2^32"
 abbrev pub Balanced : Farm → Type 0
 Balanced f = wrap (f .meters .taken) ≡ wrap (f .meters .finished + (f .meters .lost + hands (f .rows)))
