@@ -15,6 +15,7 @@ pub mod MeterFarmSums
 pub mod MeterFarmNote
 pub mod MeterFarmTold
 pub mod MeterFarmTable
+pub mod MeterFarmNone
 pub mod MeterFarmCase
 pub mod MeterHistory
 pub mod Try

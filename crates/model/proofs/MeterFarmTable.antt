@@ -43,13 +43,13 @@ module _ (s : List ℕ) (g : ℕ) (h : g < farmCount s) where
   unfolding slotSheet farmSheet
   rows-is = rw (lt-ltb g (farmCount s) h) refl
 
-foreign : (s : List ℕ) (f g : ℕ) → f < farmCount s → g < farmCount s → (f ≡ g → ⊥) → (i : ℕ) → i < slotSheet s g .rows
+pub foreign : (s : List ℕ) (f g : ℕ) → f < farmCount s → g < farmCount s → (f ≡ g → ⊥) → (i : ℕ) → i < slotSheet s g .rows
     → Foreign (slotSheet s f) (slotSheet s g .first + i)
 foreign s f g hf hg n i l k m e =
     rows-apart s f g k i hf hg (omega (arith, rows-is s f hf)) (omega (arith, rows-is s g hg)) n
     (omega (arith, first-is s f hf, first-is s g hg))
 
-not-owned : (own : FarmSheet) (r : ℕ) → ((i : ℕ) → i < own .rows → own .first + i ≡ r → ⊥) → ownsRow own r ≡ false
+pub not-owned : (own : FarmSheet) (r : ℕ) → ((i : ℕ) → i < own .rows → own .first + i ≡ r → ⊥) → ownsRow own r ≡ false
 not-owned own r h =
     split (leb (own .first) r)
     (λ t. rw t (split (ltb r (own .first + own .rows))

@@ -84,11 +84,11 @@ tick-quiet own f good = tick-keeps (quiet-laws own) f good (quiet-none own)
 
 -- ---- a farm's own call
 
+same-now : (a b : List ℕ) (e : List (List ℕ)) → a ≡ b → _≡_ {A = Log} (record { now = a; ended = e }) (record { now = b; ended = e })
+same-now a b e p = ap {B = Log} (λ (x : List ℕ). record { now = x; ended = e }) p
+
 pub took-none : (l : Log) → took [] l ≡ l
-took-none l = ap (λ (b : List ℕ). logOf b (l .ended)) (append-nil (l .now))
-  where
-    logOf : List ℕ → List (List ℕ) → Log
-    logOf a b = record { now = a; ended = b }
+took-none l = same-now (l .now ++ []) (l .now) (l .ended) (append-nil (l .now))
 
 module _ (own : FarmSheet) (T : ℕ) (L : ℕ → Log) where
   -- the logs before the closings: a connect that opens the row begins a log, then come the bytes taken
@@ -136,10 +136,7 @@ module _ (own : FarmSheet) (T : ℕ) (L : ℕ → Log) where
 
     -- a row that is free has no bytes: a new log is the log that it has
     free-begun : (s : RowState) (p : Place) (head : List ℕ) (l : Log) → isFreeState s ≡ true → TiedBy s p head (l .now) → begun l ≡ l
-    free-begun Free p head l e z = ap (λ (b : List ℕ). logOf b (l .ended)) (sym z)
-      where
-        logOf : List ℕ → List (List ℕ) → Log
-        logOf a b = record { now = a; ended = b }
+    free-begun Free p head l e z = same-now [] (l .now) (l .ended) (sym z)
     free-begun (Fresh c) p head l e z = absurd (false≢true e)
     free-begun (Waiting q) p head l e z = absurd (false≢true e)
     free-begun (Active a c) p head l e z = absurd (false≢true e)

@@ -7,20 +7,22 @@ use native.Mathlib.Nat.{add-zero, zero-add, add-assoc}
 use native.Mathlib.Omega.{arith}
 use lib.Dec.{ltb}
 use lib.ListN.{length, replicate}
+use borrow.Author.Tests.{ltb-true, ltb-false}
 use Rattle.kinds.specs.declared.Row.{Row}
 use Rattle.sheet.specs.Sheet.{farmCount}
 use Rattle.model.specs.FarmSheet.{FarmSheet, slotSheet}
-use Rattle.model.specs.Row.{freeRow, rowAt}
+use Rattle.model.specs.Row.{freeRow}
 use Rattle.model.specs.Farm.{seatCount, newFarm, wrap}
 use Rattle.model.specs.Move.{Held, Move, tickMove}
 use Rattle.model.specs.Rule.{Good}
-use Rattle.model.specs.Table.{Table, slot, heldBy, slotTick, tableOf}
+use Rattle.model.specs.Table.{Table, noHeld, slot, heldBy, slotTick, tableOf}
 use Rattle.model.specs.History.{Made, fresh, stepOf, run}
-use Rattle.model.specs.Meter.{notesOf, saidBy, Log, noLog, notedBy, logFrom, finishedUpTo, total, sumTo, takenBy, takenOf, finishedOf, lostOf, logOf, hands, Differs, Balanced, MetersAre}
-use Rattle.model.proofs.Cases.{pick-case}
+use Rattle.model.specs.Meter.{notesOf, saidBy, Log, noLog, notedBy, logFrom, finishedUpTo, total, takenBy, takenOf, finishedOf, lostOf, logOf, hands, Differs, Balanced, MetersAre}
+use Rattle.model.proofs.Cases.{pick-case, split}
 use Rattle.model.proofs.MeterFarmSlot.{step-slot, step-length}
 use Rattle.model.proofs.MeterFarmLog.{Tied, Logged}
 use Rattle.model.proofs.MeterFarmSums.{exact}
+use Rattle.model.proofs.MeterFarmNone.{free-rows, slot-none, run-length, none-sum, none-sums}
 use Rattle.model.proofs.MeterFarmTable.{step-comes}
 use Rattle.model.proofs.MeterFarmEven.{move-differs, tick-differs}
 
@@ -87,16 +89,6 @@ run-logged s g h t l (m ∷ ms) good T L x =
     (λ i. notedBy (slotSheet s g .first + i) (m .call) (saidBy (stepOf s t m)) (L i))
     (step-comes s g h t l (good []) T L x m))
 
-free-rows : (n i : ℕ) → rowAt (replicate n freeRow) i ≡ freeRow
-free-rows zero i = refl
-free-rows (suc n) zero = refl
-free-rows (suc n) (suc i) = free-rows n i
-
-none-sum : (n : ℕ) → sumTo (λ i. 0) n ≡ 0
-unfolding sumTo
-none-sum zero = refl
-none-sum (suc n) = omega (arith, none-sum n)
-
 new-logged : (own : FarmSheet) → Logged own 0 (λ i. noLog) newFarm
 unfolding newFarm finishedUpTo total
 new-logged own =
@@ -120,29 +112,51 @@ module _ (s : List ℕ) (rooms : List (List (List ℕ)))
       ap wrap (sym (add-zero _)) ∙
       run-differs 0 s g (fresh rooms) ms (λ ns. good ns g h) (subst (Differs 0) (sym (fresh-slot rooms g)) new-balanced)
 
-  module _ (all : farmCount s ≤ length rooms) (ms : List Made) (g : ℕ) (h : g < farmCount s) where
-    history-logged : Logged (slotSheet s g) (0 + takenOf (slotSheet s g) (notesOf s (fresh rooms) ms))
+  module _ (ms : List Made) (g : ℕ) (h : g < farmCount s) where
+    history-logged : g < length rooms → Logged (slotSheet s g) (0 + takenOf (slotSheet s g) (notesOf s (fresh rooms) ms))
         (λ i. logOf (slotSheet s g .first + i) (notesOf s (fresh rooms) ms)) (slot (run s (fresh rooms) ms) g .farm)
-    history-logged =
-        run-logged s g h (fresh rooms) (omega (arith, fresh-length rooms)) ms (λ ns f l. good ns f l) 0 (λ i. noLog)
+    history-logged l =
+        run-logged s g h (fresh rooms) (omega (arith, fresh-length rooms)) ms (λ ns f k. good ns f k) 0 (λ i. noLog)
         (subst (Logged (slotSheet s g) 0 (λ i. noLog)) (sym (fresh-slot rooms g)) (new-logged (slotSheet s g)))
+
+    -- a farm that the table has no slot for
+    no-farm : length rooms ≤ g → slot (run s (fresh rooms) ms) g ≡ noHeld
+    no-farm l = slot-none (run s (fresh rooms) ms) g (omega (arith, run-length s (fresh rooms) ms, fresh-length rooms))
+
+    no-sums : length rooms ≤ g → (takenOf (slotSheet s g) (notesOf s (fresh rooms) ms) ≡ 0) ×
+        (finishedOf (slotSheet s g) (notesOf s (fresh rooms) ms) ≡ 0) × (lostOf (slotSheet s g) (notesOf s (fresh rooms) ms) ≡ 0)
+    no-sums l = none-sums s g h (fresh rooms) (omega (arith, fresh-length rooms)) ms
+
+    no-meters : length rooms ≤ g → MetersAre (slotSheet s g) (notesOf s (fresh rooms) ms) (slot (run s (fresh rooms) ms) g .farm .meters)
+    unfolding newFarm
+    no-meters l =
+        let z = no-sums l in
+        rw (no-farm l) (record { taken = ap wrap (sym (z .0)); finished = ap wrap (sym (z .1)); lost = ap wrap (sym (z .2)) })
+
+    no-hands : length rooms ≤ g → hands (slot (run s (fresh rooms) ms) g .farm .rows) ≡ 0
+    unfolding newFarm
+    no-hands l = rw (no-farm l) (free-hands seatCount)
 
     -- THE METERS ARE WHAT THE HISTORY SAYS: after every history each farm's three meters are, wrapped, the bytes that its bytes calls
     -- took; the bytes of finished messages in all that was taken from its connections, each cut by the header rules alone; and what was
-    -- left over of each connection when it ended. (The table has a slot for each of the sheet's farms.)
+    -- left over of each connection when it ended.
     pub meters-are : MetersAre (slotSheet s g) (notesOf s (fresh rooms) ms) (slot (run s (fresh rooms) ms) g .farm .meters)
     meters-are =
-        let x = history-logged in
+        split (ltb g (length rooms))
+        (λ t. let x = history-logged (ltb-true g (length rooms) t) in
         record {
           taken = x .counted .taken ∙ ap wrap (zero-add (takenOf (slotSheet s g) (notesOf s (fresh rooms) ms)));
           finished = x .counted .finished;
           lost = x .counted .lost;
-        }
+        })
+        (λ t. no-meters (ltb-false g (length rooms) t))
 
     -- THE SAME WITHOUT WRAPPING: the three numbers that a history gives, and the bytes in hand on open rows, fit exactly.
     pub taken-is : takenOf (slotSheet s g) (notesOf s (fresh rooms) ms) ≡
         finishedOf (slotSheet s g) (notesOf s (fresh rooms) ms) +
         (lostOf (slotSheet s g) (notesOf s (fresh rooms) ms) + hands (slot (run s (fresh rooms) ms) g .farm .rows))
     taken-is =
-        sym (zero-add (takenOf (slotSheet s g) (notesOf s (fresh rooms) ms))) ∙
-        exact (slotSheet s g) _ _ (slot (run s (fresh rooms) ms) g .farm) history-logged (good ms g h .within)
+        split (ltb g (length rooms))
+        (λ t. sym (zero-add (takenOf (slotSheet s g) (notesOf s (fresh rooms) ms))) ∙
+        exact (slotSheet s g) _ _ (slot (run s (fresh rooms) ms) g .farm) (history-logged (ltb-true g (length rooms) t)) (good ms g h .within))
+        (λ t. let z = no-sums (ltb-false g (length rooms) t) in omega (arith, z .0, z .1, z .2, no-hands (ltb-false g (length rooms) t)))
