@@ -11,3 +11,4 @@ pub mod Table
 pub mod History
 pub mod Words
 pub mod HandsOn
+pub mod Meter
