@@ -48,7 +48,6 @@ pub mod HandOnElse
 pub mod HandOnTable
 pub mod HandOnHistory
 pub mod Shut
-pub mod Promises
 pub mod Balance
 pub mod MeterFarm
 pub mod MeterFarmLine
@@ -65,3 +64,4 @@ pub mod MeterFarmTable
 pub mod MeterFarmNone
 pub mod MeterFarmCase
 pub mod MeterHistory
+pub mod Promises

@@ -21,7 +21,12 @@ use Rattle.model.specs.Table.{Table, slot, goodTable, Call, bytesFrom, L
 use Rattle.model.specs.History.{Made, fresh, stepOf, run, callsOf, hasOf}
 use Rattle.model.specs.Words.{MustWait, Answered, cutIn, ticksIn, entriesIn}
 use Rattle.model.specs.HandsOn.{HandedOn}
+use Rattle.model.specs.Meter.{notesOf, MetersAre, Balanced}
+use Rattle.model.specs.Rule.{Good}
+use native.Mathlib.Omega.{arith}
 use Rattle.model.proofs.Split.{Calm}
+use Rattle.model.proofs.Keeps.{slot-good, run-good, fresh-good}
+use Rattle.model.proofs.MeterHistory as meters
 use Rattle.model.proofs.Settling as settling
 use Rattle.model.proofs.TableTest as tested
 use Rattle.model.proofs.Refusals as refusals
@@ -97,3 +102,19 @@ same-for-the-farm = neighbours.neighbour-any
 
 pub settled-stays : {own : FarmSheet} {f : Farm} → Calm own f → settle own f ≡ quietly f
 settled-stays = settling.settle-again
+
+-- ---- Meters: "Each is defined from the history of calls by itself. Proved: taken equals finished plus lost plus the bytes in hand on open
+-- rows, modulo 2^32."
+
+-- every farm keeps rule 4 all along a history
+kept : (s : List ℕ) (rooms : List (List (List ℕ))) (ms : List Made) (g : ℕ) → g < farmCount s
+    → Good (slotSheet s g) (slot (run s (fresh rooms) ms) g .farm)
+kept s rooms ms g h = slot-good s 0 g (run s (fresh rooms) ms) g (omega arith) (run-good s (fresh rooms) ms (fresh-good s 0 rooms))
+
+pub meters-from-the-history : (s : List ℕ) (rooms : List (List (List ℕ))) (ms : List Made) (g : ℕ) → g < farmCount s
+    → MetersAre (slotSheet s g) (notesOf s (fresh rooms) ms) (slot (run s (fresh rooms) ms) g .farm .meters)
+meters-from-the-history s rooms = meters.meters-are s rooms (kept s rooms)
+
+pub meters-balance : (s : List ℕ) (rooms : List (List (List ℕ))) (ms : List Made) (g : ℕ) → g < farmCount s
+    → Balanced (slot (run s (fresh rooms) ms) g .farm)
+meters-balance s rooms = meters.balanced s rooms (kept s rooms)

@@ -15,6 +15,7 @@ use Rattle.octets.specs.Search.{firstAt, countIf, all, sameList}
 use Rattle.octets.specs.declared.Found.{Found}
 use Rattle.octets.specs.declared.Found.the-variants.{At, Nothing}
 use Rattle.kinds.specs.declared.Request.{Request}
+use Rattle.kinds.specs.declared.Clock.{Clock}
 use Rattle.kinds.specs.declared.Row.{Row}
 use Rattle.kinds.specs.declared.RowState.{RowState}
 use Rattle.kinds.specs.declared.RowState.the-variants.{Free, Fresh, Waiting, Active}
@@ -24,7 +25,7 @@ use Rattle.sheet.specs.Sheet.{farmCount}
 use Rattle.sheet.specs.Rows.{firstRow}
 use Rattle.sheet.specs.Test.{goodSheet}
 use Rattle.model.specs.FarmSheet.{FarmSheet, farmSheet, slotSheet}
-use Rattle.model.specs.Row.{checkLimit, noHead, freeRow, rowAt, isFree, isActive, isActiveState, activeAs}
+use Rattle.model.specs.Row.{checkLimit, noHead, freeRow, rowAt, isFree, isActive, isActiveState, activeAs, heardState}
 use Rattle.model.specs.Farm.{Farm, seatCount, newFarm, andThen, says, closed}
 use Rattle.model.specs.Line.{accepted, byHolder, socketRules, byState, decide, answered}
 use Rattle.model.specs.Bytes.{decidedBy, requested}
@@ -171,3 +172,7 @@ taken-is-not-answered own seat holder q f known kind idle held = rw (known, le-l
     by (Fresh age) e = found (firstAt (activeAs (q .address)) 0 (f .rows)) refl
     by (Waiting w) e = found (firstAt (activeAs (q .address)) 0 (f .rows)) refl
     by (Active a c) e = absurd (false≢true (sym e))
+
+-- "A fresh row's age counts from connect": no byte that it sends makes it younger
+pub age-from-connect : (n : ℕ) (age : Clock) → heardState n (Fresh age) ≡ Fresh age
+age-from-connect n age = refl
