@@ -1,0 +1,4 @@
+pub mod ListLaws
+pub mod RowLaws
+pub mod LineLaws
+pub mod BlockLaws
