@@ -118,3 +118,10 @@ pub set-putAt : (out : List ℕ) (at x : ℕ) → at < length out → set out at
 unfolding putAt
 set-putAt out at x h =
     set-split out at x h ∙ sym (append-snoc (take at out) x (drop (suc at) out)) ∙ ap (λ (n : ℕ). take at out ++ (x ∷ []) ++ drop n out) (sym (add-one at))
+
+-- one element stored behind what was put
+pub set-more : (out₀ : List ℕ) (at : ℕ) (bs out : List ℕ) (n x : ℕ) → out ≡ putAt out₀ at bs → n ≡ at + length bs → n < length out₀
+    → set out n x ≡ putAt out₀ at (bs ++ (x ∷ []))
+set-more out₀ at bs out n x e k h =
+    put-more out₀ at bs out n (x ∷ []) (set out n x) e k (omega arith)
+    (set-putAt out n x (omega (arith, ap length e, length-putAt out₀ at bs (omega arith))))

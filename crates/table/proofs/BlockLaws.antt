@@ -8,10 +8,11 @@ use native.Mathlib.Omega.{arith}
 use lib.ListN.{length, getD, set, replicate, length-map, List·getD-map, List·getD-eq-default}
 use lib.Seq.{take-all}
 use Rattle.octets.specs.Choice.{one}
+use Rattle.octets.specs.Numbers.{u16At}
 use Rattle.octets.specs.Put.{putAt}
 use Rattle.octets.specs.Parts.{part, parts, joined}
 use Rattle.octets.proofs.PutLaws.{length-putAt}
-use Rattle.octets.proofs.PartsLaws.{part-same, part-before, part-after, parts-after, parts-same, parts-get, parts-length, part-join, parts-join}
+use Rattle.octets.proofs.PartsLaws.{part-same, part-before, part-after, parts-after, parts-same, parts-get, parts-length, part-join, parts-join, getD-part}
 use Rattle.kinds.specs.Clock.{clockOf}
 use Rattle.kinds.specs.declared.Clock.{Clock}
 use Rattle.kinds.specs.declared.Meters.{Meters}
@@ -20,8 +21,8 @@ use Rattle.model.specs.Row.{rowAt, freeRow, noHead}
 use Rattle.model.specs.Farm.{Farm, seatCount, newFarm, withRow, withLine, withClock, withMarks, withMeters}
 use Rattle.table.specs.Layout.{seats, metersAt, metersSize, lineAt, lineSize, clockAt, clockSize, marksAt, rowsAt, rowSize, blockSize, headSize}
 use Rattle.table.specs.RowBytes.{rowFrom, rowImage, stateIn}
-use Rattle.table.specs.Block.{metersImage, metersFrom, lineImage, lineFrom, clockImage, clockFrom, isOne, marksImage, marksFrom, farmOf, image, Whole, Holds}
-use Rattle.table.proofs.ListLaws.{map-set, back-each, getD-any}
+use Rattle.table.specs.Block.{metersImage, metersFrom, lineImage, lineFrom, clockImage, clockFrom, marksImage, marksFrom, farmOf, image, Whole, Holds}
+use Rattle.table.proofs.ListLaws.{map-set, getD-any}
 use Rattle.table.proofs.RowLaws.{two, four, row-long, row-back}
 use Rattle.table.proofs.LineLaws.{line-long, line-back}
 
@@ -95,6 +96,12 @@ unfolding farmOf
 no-row-read b i h =
     List·getD-eq-default (map rowFrom (parts rowSize rowsAt seats b)) freeRow {n = i}
     (omega (arith, length-map (parts rowSize rowsAt seats b) rowFrom, parts-length rowSize rowsAt seats b))
+
+pub clock-read : (b : List ℕ) → clockOf (u16At b clockAt) ≡ farmOf b .clock
+unfolding farmOf clockFrom
+clock-read b =
+    ap (λ (x : ℕ). clockOf (x * 256 + getD b (clockAt + 1) 0)) (sym (getD-part b clockAt clockSize 0 (omega arith)))
+    ∙ ap (λ (x : ℕ). clockOf (getD (part b clockAt clockSize) 0 0 * 256 + x)) (sym (getD-part b clockAt clockSize 1 (omega arith)))
 
 -- ---- storing one record
 

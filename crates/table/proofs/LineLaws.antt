@@ -1,26 +1,24 @@
 -- A line that was laid out is read back, and a line that is laid out as it means is its waiters and zeros.
 -- Assumes nothing.
-use mathlib.Core.Path.{_≡_, refl, sym, ap, _∙_}
-use mathlib.Core.List.{List, [], _∷_, _++_}
+use mathlib.Core.Path.{_≡_, refl, _∙_}
+use mathlib.Core.List.{List}
 use Prim.Native.Nat.{ℕ, _-_, _≤_}
 use native.Mathlib.Omega.{arith}
-use lib.ListN.{length, getD, take, drop, replicate, length-append, length-replicate, length-take}
+use lib.ListN.{length, getD, replicate, length-take}
 use lib.Seq.{take-at, take-take}
 use Rattle.octets.specs.Parts.{part}
 use Rattle.octets.proofs.PartsLaws.{part-short}
 use Rattle.table.specs.Layout.{seats, lineSize}
 use Rattle.table.specs.Block.{lineImage, lineFrom}
+use Rattle.table.proofs.ListLaws.{filled, filled-long}
 
 -- the waiters, and zeros past them
 abbrev pub padded : List ℕ → List ℕ
-padded line = line ++ replicate (seats - length line) 0
-
-pub padded-long : (line : List ℕ) → length line ≤ seats → length (padded line) ≡ seats
-padded-long line h = omega (arith, length-append line (replicate (seats - length line) 0), length-replicate {A = ℕ} (seats - length line) 0)
+padded line = filled seats 0 line
 
 pub line-long : (line : List ℕ) → length line ≤ seats → length (lineImage line) ≡ lineSize
 unfolding lineImage
-line-long line h = omega (arith, padded-long line h)
+line-long line h = omega (arith, filled-long {A = ℕ} seats 0 line h)
 
 pub line-back : (line : List ℕ) → length line ≤ seats → lineFrom (lineImage line) ≡ line
 unfolding lineFrom lineImage

@@ -1,11 +1,11 @@
 -- Laws of lists: a list by its elements, and a function over each member of a list of which one changes.
 -- Assumes nothing.
 use mathlib.Core.Path.{_≡_, refl, sym, ap, _∙_}
-use mathlib.Core.List.{List, [], _∷_, map}
-use Prim.Native.Nat.{ℕ, zero, suc, _+_, _<_}
+use mathlib.Core.List.{List, [], _∷_, _++_, map, append-assoc, append-nil}
+use Prim.Native.Nat.{ℕ, zero, suc, _+_, _-_, _≤_, _<_}
 use native.Mathlib.Omega.{arith}
-use lib.ListN.{length, getD, drop, set}
-use lib.Seq.{drop-cons, drop-length}
+use lib.ListN.{length, getD, drop, set, replicate, length-append, length-replicate}
+use lib.Seq.{drop-cons, drop-length, set-append-seam}
 
 -- n elements from the place k on
 abbrev run : {A : Type 0} → List A → A → ℕ → ℕ → List A
@@ -43,3 +43,26 @@ pub getD-any : {A : Type 0} (l : List A) (i : ℕ) (d e : A) → i < length l �
 getD-any [] i d e h = absurd (omega arith)
 getD-any (x ∷ l) zero d e h = refl
 getD-any (x ∷ l) (suc i) d e h = getD-any l i d e (omega arith)
+
+-- ---- a list filled up to a length
+
+abbrev pub filled : {A : Type 0} → ℕ → A → List A → List A
+filled n z l = l ++ replicate (n - length l) z
+
+pub filled-long : {A : Type 0} (n : ℕ) (z : A) (l : List A) → length l ≤ n → length (filled n z l) ≡ n
+filled-long n z l h = omega (arith, length-append l (replicate (n - length l) z), length-replicate (n - length l) z)
+
+-- the first place that is not taken gets a value
+pub filled-next : {A : Type 0} (n : ℕ) (z : A) (l : List A) (x : A) → length l < n → set (filled n z l) (length l) x ≡ filled n z (l ++ (x ∷ []))
+filled-next n z l x h =
+    let k : n - length l ≡ suc (n - length (l ++ (x ∷ []))) = omega (arith, length-append l (x ∷ [])) in
+    ap (λ (m : ℕ). set (l ++ replicate m z) (length l) x) k
+    ∙ set-append-seam l z (replicate (n - length (l ++ (x ∷ []))) z) x
+    ∙ sym (append-assoc l (x ∷ []) (replicate (n - length (l ++ (x ∷ []))) z))
+
+pub filled-done : {A : Type 0} (n : ℕ) (z : A) (l : List A) → length l ≡ n → filled n z l ≡ l
+filled-done n z l h = let k : n - length l ≡ 0 = omega arith in ap (λ (m : ℕ). l ++ replicate m z) k ∙ append-nil l
+
+pub map-snoc : {A B : Type 0} (f : A → B) (l : List A) (x : A) → map f (l ++ (x ∷ [])) ≡ map f l ++ (f x ∷ [])
+map-snoc f [] x = refl
+map-snoc f (y ∷ l) x = ap (λ t. f y ∷ t) (map-snoc f l x)

@@ -1,23 +1,21 @@
 -- A row that was laid out is read back; its bytes are twenty; other ticks are two other bytes.
 -- Assumes nothing.
-use mathlib.Core.Path.{_≡_, refl, sym, ap, _∙_}
+use mathlib.Core.Path.{_≡_, refl, ap, _∙_}
 use mathlib.Core.List.{List, [], _∷_, _++_}
 use Prim.Native.Nat.{ℕ, _+_, _*_, _/_, _%_}
 use native.Mathlib.Omega.{arith}
 use lib.ListN.{length, getD, take, drop, length-append}
 use lib.Seq.{take-at, drop-at}
-use Rattle.octets.specs.Numbers.{u16At, u32At, be16}
-use Rattle.octets.specs.Put.{putAt}
+use Rattle.octets.specs.Numbers.{u32At}
 use Rattle.octets.specs.Parts.{part}
-use Rattle.octets.proofs.PutLaws.{put-start}
 use Rattle.kinds.specs.declared.RowState.{RowState}
 use Rattle.kinds.specs.declared.RowState.the-variants.{Free, Fresh, Waiting, Active}
 use Rattle.kinds.specs.declared.Place.{Place}
 use Rattle.kinds.specs.declared.Place.the-variants.{Header, Reading, Skipping}
 use Rattle.kinds.specs.declared.Row.{Row}
 use Rattle.kinds.specs.Clock.{clockOf}
-use Rattle.table.specs.Layout.{rowSize, ticksIn, placeIn, headIn, headSize}
-use Rattle.table.specs.RowBytes.{stateImage, placeImage, placeFrom, rowImage, stateIn, rowFrom, ticked}
+use Rattle.table.specs.Layout.{rowSize, placeIn, headIn, headSize}
+use Rattle.table.specs.RowBytes.{stateImage, placeImage, placeFrom, rowImage, stateIn, rowFrom}
 
 -- ---- numbers: no bound is needed, since the first byte takes all that is left
 
@@ -103,7 +101,7 @@ row-back r h =
 
 -- ---- what follows the place, and the spare byte
 
-past-all : (r : Row) → length (r .head) ≡ headSize → drop 19 (rowImage r) ≡ 0 ∷ []
+pub past-all : (r : Row) → length (r .head) ≡ headSize → drop 19 (rowImage r) ≡ 0 ∷ []
 unfolding rowImage
 past-all r h = by (r .state) (r .place)
   where

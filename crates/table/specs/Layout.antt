@@ -17,6 +17,10 @@ metersSize = 12
 abbrev pub lineAt : ℕ
 lineAt = 12
 
+-- the first of the line's seats
+abbrev pub seatsAt : ℕ
+seatsAt = 13
+
 abbrev pub lineSize : ℕ
 lineSize = 1 + seats
 
