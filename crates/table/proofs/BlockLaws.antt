@@ -19,11 +19,12 @@ use Rattle.kinds.specs.declared.Meters.{Meters}
 use Rattle.kinds.specs.declared.Row.{Row}
 use Rattle.model.specs.Row.{rowAt, freeRow, noHead}
 use Rattle.model.specs.Farm.{Farm, seatCount, newFarm, withRow, withLine, withClock, withMarks, withMeters}
-use Rattle.table.specs.Layout.{seats, metersAt, metersSize, lineAt, lineSize, clockAt, clockSize, marksAt, rowsAt, rowSize, blockSize, headSize}
-use Rattle.table.specs.RowBytes.{rowFrom, rowImage, stateIn}
+use Rattle.rowbytes.specs.RowLayout.{rowSize, headSize}
+use Rattle.table.specs.Layout.{seats, metersAt, metersSize, lineAt, lineSize, clockAt, clockSize, marksAt, rowsAt, blockSize}
+use Rattle.rowbytes.specs.RowBytes.{rowFrom, rowImage, stateIn}
 use Rattle.table.specs.Block.{metersImage, metersFrom, lineImage, lineFrom, clockImage, clockFrom, marksImage, marksFrom, farmOf, image, Whole, Holds}
 use Rattle.table.proofs.ListLaws.{map-set, getD-any}
-use Rattle.table.proofs.RowLaws.{two, four, row-long, row-back}
+use Rattle.rowbytes.proofs.RowLaws.{two, four, row-long, row-back}
 use Rattle.table.proofs.LineLaws.{line-long, line-back}
 
 -- ---- each record: its bytes, and back

@@ -1,5 +1,4 @@
 pub mod ListLaws
-pub mod RowLaws
 pub mod LineLaws
 pub mod BlockLaws
 pub mod RowStores

@@ -18,11 +18,12 @@ use Rattle.kinds.specs.declared.RowState.the-variants.{Fresh, Active}
 use Rattle.kinds.specs.declared.Row.{Row}
 use Rattle.model.specs.Row.{rowAt, freeRow}
 use Rattle.model.specs.Farm.{withRow, withRows}
-use Rattle.table.specs.Layout.{seats, rowsAt, rowSize, ticksIn, placeIn, headIn, headSize}
-use Rattle.table.specs.RowBytes.{stateImage, placeImage, rowImage, rowFrom, stateTicked, ticked}
+use Rattle.rowbytes.specs.RowLayout.{rowSize, ticksIn, placeIn, headIn, headSize}
+use Rattle.table.specs.Layout.{seats, rowsAt}
+use Rattle.rowbytes.specs.RowBytes.{stateImage, placeImage, rowImage, rowFrom, stateTicked, ticked}
 use Rattle.table.specs.Block.{farmOf, Whole, Holds}
 use Rattle.table.proofs.ListLaws.{back-each}
-use Rattle.table.proofs.RowLaws.{state-long, place-long, past-all}
+use Rattle.rowbytes.proofs.RowLaws.{state-long, place-long, past-all}
 use Rattle.table.proofs.BlockLaws.{row-read, row-put}
 
 module _ (b : List ℕ) (w : Whole b) (i : ℕ) (h : i < seats) where

@@ -13,8 +13,9 @@ use Rattle.kinds.specs.Clock.{clockOf}
 use Rattle.kinds.specs.declared.Clock.{Clock}
 use Rattle.kinds.specs.declared.Meters.{Meters}
 use Rattle.model.specs.Farm.{Farm}
-use Rattle.table.specs.Layout.{seats, metersAt, metersSize, lineAt, lineSize, clockAt, clockSize, marksAt, rowsAt, rowSize, blockSize}
-use Rattle.table.specs.RowBytes.{rowFrom, rowImage}
+use Rattle.rowbytes.specs.RowLayout.{rowSize}
+use Rattle.table.specs.Layout.{seats, metersAt, metersSize, lineAt, lineSize, clockAt, clockSize, marksAt, rowsAt, blockSize}
+use Rattle.rowbytes.specs.RowBytes.{rowFrom, rowImage}
 
 -- ---- "three meters"
 

@@ -1,6 +1,7 @@
 -- Where everything of a farm's block stands. No other crate knows a place of it.
 -- Assumes nothing: these are definitions.
 use Prim.Native.Nat.{ℕ, _+_, _*_}
+use Rattle.rowbytes.specs.RowLayout.{rowSize}
 
 -- "its at most nine rows": the seats that a block has room for
 abbrev pub seats : ℕ
@@ -36,22 +37,5 @@ marksAt = 24
 abbrev pub rowsAt : ℕ
 rowsAt = 33
 
-abbrev pub rowSize : ℕ
-rowSize = 20
-
 abbrev pub blockSize : ℕ
 blockSize = rowsAt + seats * rowSize
-
--- ---- within a row: state (tag, request type, address, count), place (tag, count), the header's bytes, one spare byte
-
-abbrev pub ticksIn : ℕ
-ticksIn = 4
-
-abbrev pub placeIn : ℕ
-placeIn = 6
-
-abbrev pub headIn : ℕ
-headIn = 11
-
-abbrev pub headSize : ℕ
-headSize = 8

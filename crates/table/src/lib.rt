@@ -3,7 +3,9 @@ pub mod clock; // clock.rt: the check clock
 pub mod line; // line.rt: the waiting rows
 pub mod marks; // marks.rt: who answered
 pub mod meters; // meters.rt: taken, finished, lost
-pub mod row; // row.rt: a row's twenty bytes
+pub mod row; // row.rt: the rows
+
+use rowbytes::ROW;
 
 // Where things stand, as specs/Layout.antt has it. A farm's functions are lent BLOCK bytes.
 pub const SEATS: usize = 9;
@@ -21,5 +23,3 @@ const CLOCK: usize = 22;
 const MARKS: usize = 24;
 
 const ROWS: usize = 33;
-
-const ROW: usize = 20;

@@ -6,7 +6,8 @@ use Prim.Native.Nat.{ℕ, _+_, _*_}
 use native.Mathlib.Omega.{arith}
 use lib.ListN.{length}
 use Rattle.octets.specs.Put.{putAt}
-use Rattle.table.specs.Layout.{rowsAt, rowSize, placeIn, headSize}
+use Rattle.rowbytes.specs.RowLayout.{rowSize, placeIn, headSize}
+use Rattle.table.specs.Layout.{rowsAt}
 use Rattle.table.proofs.RowStores.{row-stored}
 use borrow.Author.Needs.{needs}
 use Rattle.table.proofs.row.put_row.Statement.{statement}

@@ -4,8 +4,9 @@ use mathlib.Core.Path.{refl, sym, ap, _∙_}
 use mathlib.Core.List.{List}
 use Prim.Native.Nat.{ℕ, _+_, _*_}
 use Rattle.octets.proofs.PartsLaws.{part-between}
-use Rattle.table.specs.Layout.{rowsAt, rowSize}
-use Rattle.table.specs.RowBytes.{rowFrom}
+use Rattle.rowbytes.specs.RowLayout.{rowSize}
+use Rattle.table.specs.Layout.{rowsAt}
+use Rattle.rowbytes.specs.RowBytes.{rowFrom}
 use Rattle.table.proofs.BlockLaws.{row-read, no-row-read}
 use borrow.Author.Needs.{needs}
 use Rattle.table.proofs.row.row_at.Statement.{statement}

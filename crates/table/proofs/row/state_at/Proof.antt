@@ -5,8 +5,9 @@ use mathlib.Core.List.{List}
 use Prim.Native.Nat.{ℕ, _+_, _*_}
 use Rattle.octets.proofs.PartsLaws.{part-between}
 use Rattle.kinds.specs.declared.Row.{Row}
-use Rattle.table.specs.Layout.{rowsAt, rowSize}
-use Rattle.table.specs.RowBytes.{stateIn, rowFrom}
+use Rattle.rowbytes.specs.RowLayout.{rowSize}
+use Rattle.table.specs.Layout.{rowsAt}
+use Rattle.rowbytes.specs.RowBytes.{stateIn, rowFrom}
 use Rattle.table.proofs.BlockLaws.{row-read, no-row-read}
 use borrow.Author.Needs.{needs}
 use Rattle.table.proofs.row.state_at.Statement.{statement}

@@ -1,10 +1,10 @@
--- `row::state_bytes` meets its contract.
+-- `rowbytes::state_bytes` meets its contract.
 -- Assumes nothing.
 use mathlib.Core.Path.{sym, ap, _∙_}
-use Rattle.table.specs.RowBytes.{stateImage}
+use Rattle.rowbytes.specs.RowBytes.{stateImage}
 use borrow.Author.Needs.{needs}
-use Rattle.table.proofs.row.state_bytes.Statement.{statement}
-use Rattle.table.proofs.row.state_bytes.Tie as tie
+use Rattle.rowbytes.proofs.state_bytes.Statement.{statement}
+use Rattle.rowbytes.proofs.state_bytes.Tie as tie
 
 enum-told : tie.Need-enum-told
 enum-told c = search needs

@@ -14,8 +14,8 @@ use Rattle.kinds.specs.declared.Place.{Place}
 use Rattle.kinds.specs.declared.Place.the-variants.{Header, Reading, Skipping}
 use Rattle.kinds.specs.declared.Row.{Row}
 use Rattle.kinds.specs.Clock.{clockOf}
-use Rattle.table.specs.Layout.{rowSize, placeIn, headIn, headSize}
-use Rattle.table.specs.RowBytes.{stateImage, placeImage, placeFrom, rowImage, stateIn, rowFrom}
+use Rattle.rowbytes.specs.RowLayout.{rowSize, placeIn, headIn, headSize}
+use Rattle.rowbytes.specs.RowBytes.{stateImage, placeImage, placeFrom, rowImage, stateIn, rowFrom}
 
 -- ---- numbers: no bound is needed, since the first byte takes all that is left
 

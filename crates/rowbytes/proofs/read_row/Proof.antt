@@ -1,9 +1,9 @@
--- `row::read_row` meets its contract.
+-- `rowbytes::read_row` meets its contract.
 -- Assumes nothing.
-use Rattle.table.specs.RowBytes.{rowFrom}
+use Rattle.rowbytes.specs.RowBytes.{rowFrom}
 use borrow.Author.Needs.{needs}
-use Rattle.table.proofs.row.read_row.Statement.{statement}
-use Rattle.table.proofs.row.read_row.Tie as tie
+use Rattle.rowbytes.proofs.read_row.Statement.{statement}
+use Rattle.rowbytes.proofs.read_row.Tie as tie
 
 read-state-requires : tie.Need-read-state-requires
 read-state-requires c κs = search needs

@@ -1,10 +1,10 @@
--- `row::place_bytes` meets its contract.
+-- `rowbytes::place_bytes` meets its contract.
 -- Assumes nothing.
 use mathlib.Core.Path.{sym, ap, _∙_}
-use Rattle.table.specs.RowBytes.{placeImage}
+use Rattle.rowbytes.specs.RowBytes.{placeImage}
 use borrow.Author.Needs.{needs}
-use Rattle.table.proofs.row.place_bytes.Statement.{statement}
-use Rattle.table.proofs.row.place_bytes.Tie as tie
+use Rattle.rowbytes.proofs.place_bytes.Statement.{statement}
+use Rattle.rowbytes.proofs.place_bytes.Tie as tie
 
 enum-known-place : tie.Need-enum-known-place
 enum-known-place c = search needs

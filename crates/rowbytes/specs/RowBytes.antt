@@ -15,7 +15,7 @@ use Rattle.kinds.specs.declared.RowState.the-variants.{Free, Fresh, Waiting, Ac
 use Rattle.kinds.specs.declared.Place.{Place}
 use Rattle.kinds.specs.declared.Place.the-variants.{Header, Reading, Skipping}
 use Rattle.kinds.specs.declared.Row.{Row}
-use Rattle.table.specs.Layout.{ticksIn, placeIn, headIn, headSize}
+use Rattle.rowbytes.specs.RowLayout.{ticksIn, placeIn, headIn, headSize}
 
 -- ---- the state: tag, request type, address, ticks
 

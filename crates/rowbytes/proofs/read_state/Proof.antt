@@ -1,9 +1,9 @@
--- `row::read_state` meets its contract.
+-- `rowbytes::read_state` meets its contract.
 -- Assumes nothing.
-use Rattle.table.specs.RowBytes.{stateIn}
+use Rattle.rowbytes.specs.RowBytes.{stateIn}
 use borrow.Author.Needs.{needs}
-use Rattle.table.proofs.row.read_state.Statement.{statement}
-use Rattle.table.proofs.row.read_state.Tie as tie
+use Rattle.rowbytes.proofs.read_state.Statement.{statement}
+use Rattle.rowbytes.proofs.read_state.Tie as tie
 
 read16-requires : tie.Need-read16-requires
 read16-requires c κs = search needs

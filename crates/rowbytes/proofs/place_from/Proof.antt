@@ -1,8 +1,8 @@
--- `row::place_from` meets its contract.
+-- `rowbytes::place_from` meets its contract.
 -- Assumes nothing.
 use borrow.Author.Tests.{eq-eqb, ne-eqb}
-use Rattle.table.proofs.row.place_from.Statement.{statement}
-use Rattle.table.proofs.row.place_from.Tie as tie
+use Rattle.rowbytes.proofs.place_from.Statement.{statement}
+use Rattle.rowbytes.proofs.place_from.Tie as tie
 
 returns : tie.Need-returns
 returns c = simp (eq-eqb _ _ (c .if1 .taken))

@@ -1,9 +1,9 @@
--- `row::read_head` meets its contract.
+-- `rowbytes::read_head` meets its contract.
 -- Assumes nothing.
-use Rattle.table.proofs.ListLaws.{eight}
+use Rattle.rowbytes.proofs.RunLaws.{eight}
 use borrow.Author.Needs.{needs}
-use Rattle.table.proofs.row.read_head.Statement.{statement}
-use Rattle.table.proofs.row.read_head.Tie as tie
+use Rattle.rowbytes.proofs.read_head.Statement.{statement}
+use Rattle.rowbytes.proofs.read_head.Tie as tie
 
 shared-slice-read-t3 : tie.Need-shared-slice-read-t3
 shared-slice-read-t3 c = search needs
