@@ -1,2 +1,3 @@
 pub mod RunLaws
 pub mod RowLaws
+pub mod TestLaws

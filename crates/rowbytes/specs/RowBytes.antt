@@ -3,6 +3,7 @@
 -- header's count is the last byte of its four alone.
 -- Assumes nothing: these are definitions.
 use Prim.Native.Nat.{ℕ}
+use mathlib.Core.Path.{_≡_}
 use mathlib.Core.List.{List, [], _∷_, _++_}
 use lib.Dec.{eqb}
 use lib.ListN.{getD}
@@ -67,3 +68,20 @@ stateTicked n (Active address idle) = Active address (clockOf n)
 
 abbrev pub ticked : ℕ → Row → Row
 ticked n r = record { state = stateTicked n (r .state); place = r .place; head = r .head }
+
+-- ---- bytes that are laid out as they mean
+
+abbrev pub StateOk : ℕ → ℕ → ℕ → ℕ → Type 0
+StateOk tag kind address ticks = stateImage (stateFrom tag kind address ticks) ≡ stateBytes tag kind address ticks
+
+abbrev pub PlaceOk : ℕ → ℕ → ℕ → Type 0
+PlaceOk tag low count = placeImage (placeFrom tag low count) ≡ tag ∷ be32 count
+
+abbrev pub RowOk : List ℕ → Type 0
+RowOk s = rowImage (rowFrom s) ≡ s
+
+-- what a state does not use is 0
+pub record Unused (kind address ticks : ℕ) : Type 0 where
+  pub noKind : kind ≡ 0
+  pub noAddress : address ≡ 0
+  pub noTicks : ticks ≡ 0

@@ -3,8 +3,9 @@ ghost use mathlib.Core.Path.{_≡_};
 ghost use mathlib.Core.List.{_∷_};
 ghost use lib.ListN.{length};
 ghost use Rattle.octets.specs.Numbers.{be32};
+ghost use Rattle.octets.specs.Says.{Says};
 ghost use Rattle.rowbytes.specs.RowLayout.{rowSize, headSize};
-ghost use Rattle.rowbytes.specs.RowBytes.{stateBytes, stateImage, stateFrom, placeImage, placeFrom, stateIn, rowFrom};
+ghost use Rattle.rowbytes.specs.RowBytes.{stateBytes, stateImage, stateFrom, placeImage, placeFrom, stateIn, rowFrom, StateOk, PlaceOk, RowOk, Unused};
 use kinds::Clock;
 use kinds::Place;
 use kinds::Request;
@@ -133,4 +134,67 @@ pub fn read_row(s: &[u8]) -> Row
         place: place,
         head: head,
     }
+}
+
+// ---- the test whether twenty bytes are a row's: by tags and zeros, nothing is laid out again
+
+fn none(kind: u8, address: u16, ticks: u16) -> bool
+    ensures { λ r. ⌜ Says r (Unused kind address ticks) ⌝ }
+{
+    if kind != 0 {
+        return false;
+    }
+    if address != 0 {
+        return false;
+    }
+    ticks == 0
+}
+
+fn state_ok(tag: u8, kind: u8, address: u16, ticks: u16) -> bool
+    ensures { λ r. ⌜ Says r (StateOk tag kind address ticks) ⌝ }
+{
+    if tag == 1 {
+        return none(kind, address, 0);
+    }
+    if tag == 2 {
+        return ticks == 0;
+    }
+    if tag == 3 {
+        return kind == 0;
+    }
+    if tag != 0 {
+        return false;
+    }
+    none(kind, address, ticks)
+}
+
+fn place_ok(tag: u8, low: u8, count: u32) -> bool
+    ensures { λ r. ⌜ Says r (PlaceOk tag low count) ⌝ }
+{
+    if tag == 1 {
+        return true;
+    }
+    if tag == 2 {
+        return true;
+    }
+    if tag != 0 {
+        return false;
+    }
+    count == low as u32
+}
+
+pub fn row_ok(s: &[u8]) -> bool
+    requires { ⌜ length (now s) ≡ rowSize ⌝ }
+    ensures { λ r. ⌜ Says r (RowOk (now (s .entry))) ⌝ }
+{
+    if s[SPARE] != 0 {
+        return false;
+    }
+    let address = octets::read16(s, 2);
+    let ticks = octets::read16(s, TICKS);
+    if !state_ok(s[0], s[1], address, ticks) {
+        return false;
+    }
+    let count = octets::read32(s, 7);
+    place_ok(s[PLACE], s[10], count)
 }
