@@ -4,3 +4,4 @@ pub mod BlockLaws
 pub mod RowStores
 pub mod LineStores
 pub mod MarkLaws
+pub mod WholeLaws

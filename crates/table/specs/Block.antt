@@ -71,15 +71,35 @@ image f =
     metersImage (f .meters)
     ++ (lineImage (f .line) ++ (clockImage (f .clock) ++ (marksImage (f .marks) ++ joined (map rowImage (f .rows)))))
 
--- the bytes are those of a farm: each record of the block, laid out again from what it means, is the same bytes
+-- ---- whole blocks
+
+-- each record of the block, laid out again from what it means, is the same bytes
+abbrev pub MetersOk : List ℕ → Type 0
+MetersOk b = metersImage (metersFrom (part b metersAt metersSize)) ≡ part b metersAt metersSize
+
+-- the count is at most nine, and the seats past it are 0
+abbrev pub LineOk : List ℕ → Type 0
+LineOk b = lineImage (lineFrom (part b lineAt lineSize)) ≡ part b lineAt lineSize
+
+abbrev pub ClockOk : List ℕ → Type 0
+ClockOk b = clockImage (clockFrom (part b clockAt clockSize)) ≡ part b clockAt clockSize
+
+-- each is 0 or 1
+abbrev pub MarksOk : List ℕ → Type 0
+MarksOk b = marksImage (marksFrom (part b marksAt seats)) ≡ part b marksAt seats
+
+-- no tag is unknown, and what a state or a place does not use is 0
+abbrev pub RowsOk : List ℕ → Type 0
+RowsOk b = map rowImage (map rowFrom (parts rowSize rowsAt seats b)) ≡ parts rowSize rowsAt seats b
+
+-- the bytes are those of a farm
 pub record Whole (b : List ℕ) : Type 0 where
   pub long : length b ≡ blockSize
-  pub meters : metersImage (metersFrom (part b metersAt metersSize)) ≡ part b metersAt metersSize
-  -- the count is at most nine, and the seats past it are 0
-  pub line : lineImage (lineFrom (part b lineAt lineSize)) ≡ part b lineAt lineSize
-  pub clock : clockImage (clockFrom (part b clockAt clockSize)) ≡ part b clockAt clockSize
-  pub marks : marksImage (marksFrom (part b marksAt seats)) ≡ part b marksAt seats
-  pub rows : map rowImage (map rowFrom (parts rowSize rowsAt seats b)) ≡ parts rowSize rowsAt seats b
+  pub meters : MetersOk b
+  pub line : LineOk b
+  pub clock : ClockOk b
+  pub marks : MarksOk b
+  pub rows : RowsOk b
 
 -- a block that holds just this farm
 pub record Holds (b : List ℕ) (f : Farm) : Type 0 where

@@ -4,6 +4,7 @@ pub mod line; // line.rt: the waiting rows
 pub mod marks; // marks.rt: who answered
 pub mod meters; // meters.rt: taken, finished, lost
 pub mod row; // row.rt: the rows
+pub mod whole; // whole.rt: the test of a block
 
 use rowbytes::ROW;
 
