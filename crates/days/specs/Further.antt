@@ -5,7 +5,8 @@ use mathlib.Core.List.{List, [], _∷_, _++_}
 use lib.ListN.{replicate}
 use Rattle.octets.specs.Parts.{joined}
 use Rattle.kinds.specs.declared.RowState.the-variants.{Active}
-use Rattle.model.specs.Row.{clockOf, rowOf}
+use Rattle.kinds.specs.Clock.{clockOf}
+use Rattle.model.specs.Row.{rowOf}
 use Rattle.model.specs.Farm.{newFarm, withRow}
 use Rattle.model.specs.Table.{Table, bytesFrom, connectTo, tick}
 use Rattle.days.specs.Day.{Day, plain}

@@ -26,7 +26,8 @@ use Rattle.kinds.specs.declared.RowState.the-variants.{Free, Fresh, Waiting, Ac
 use Rattle.kinds.specs.declared.Row.{Row}
 use Rattle.kinds.specs.declared.Item.{Item}
 use Rattle.model.specs.FarmSheet.{FarmSheet}
-use Rattle.model.specs.Row.{clockOf, checkLimit, rowOf, freeRow, rowAt, inHand, isOpenState, isOpen, isActive, activeAs, wanted}
+use Rattle.kinds.specs.Clock.{clockOf, checkLimit}
+use Rattle.model.specs.Row.{rowOf, freeRow, rowAt, inHand, isOpenState, isOpen, isActive, activeAs, wanted}
 use Rattle.model.specs.Farm.{Farm, seatCount, withRow, withLine, Done, quietly, andThen, eachSeat, closed, closedIf, closedWhere}
 use Rattle.model.specs.Line.{accepted, asks, isSilent, isMarked, allAnswered, byHolder, askedIf, asking, cleared, startedBy, started, advanced, answered, verdictBy, headVerdict, serve, settleLine, socketRules}
 use Rattle.model.specs.Move.{aged}

@@ -31,7 +31,8 @@ use Rattle.wire.specs.Payload.{requestIn, addressIn, endsIn}
 use Rattle.wire.specs.declared.payload.Ends.{Ends}
 use Rattle.datagram.specs.Datagram.{datagramVerdict, payloadOf, ifNamed, answerBy, answerFor, answerTo}
 use Rattle.model.specs.FarmSheet.{FarmSheet, TargetIs, stranger, unreachable, reachable}
-use Rattle.model.specs.Row.{clockOf, boundary, rowAt, inHandAt, inHandBy, inHand, isOpenState, isOpen, isFreeState, isFree, isWaitingState, isWaiting, activeAs, atLimitState, atLimit, older, olderState, heardState}
+use Rattle.kinds.specs.Clock.{clockOf}
+use Rattle.model.specs.Row.{boundary, rowAt, inHandAt, inHandBy, inHand, isOpenState, isOpen, isFreeState, isFree, isWaitingState, isWaiting, activeAs, atLimitState, atLimit, older, olderState, heardState}
 use Rattle.model.specs.Stream.{Stream, Event, inputEnded, wrong, finished, skipped, Taken}
 use Rattle.model.specs.Farm.{Farm, withLine, quietly, andThen, closed, closedWhere}
 use Rattle.model.specs.Line.{decide, settle, cleared, left}

@@ -13,7 +13,8 @@ use Rattle.sheet.specs.Rules.{GoodSheet}
 use Rattle.sheet.specs.Rows.{ownerOf}
 use Rattle.wire.specs.Header.{mostPayload}
 use Rattle.model.specs.FarmSheet.{FarmSheet, slotSheet}
-use Rattle.model.specs.Row.{checkLimit, rowAt, activeAs}
+use Rattle.kinds.specs.Clock.{checkLimit}
+use Rattle.model.specs.Row.{rowAt, activeAs}
 use Rattle.model.specs.Farm.{Farm, quietly}
 use Rattle.model.specs.Line.{settle}
 use Rattle.model.specs.Move.{Own, Held, move, tickMove}

@@ -25,7 +25,8 @@ use Rattle.sheet.specs.Sheet.{farmCount}
 use Rattle.sheet.specs.Rows.{firstRow}
 use Rattle.sheet.specs.Test.{goodSheet}
 use Rattle.model.specs.FarmSheet.{FarmSheet, farmSheet, slotSheet}
-use Rattle.model.specs.Row.{checkLimit, noHead, freeRow, rowAt, isFree, isActive, isActiveState, activeAs, heardState}
+use Rattle.kinds.specs.Clock.{checkLimit}
+use Rattle.model.specs.Row.{noHead, freeRow, rowAt, isFree, isActive, isActiveState, activeAs, heardState}
 use Rattle.model.specs.Farm.{Farm, seatCount, newFarm, andThen, says, closed}
 use Rattle.model.specs.Line.{accepted, byHolder, socketRules, byState, decide, answered}
 use Rattle.model.specs.Bytes.{decidedBy, requested}

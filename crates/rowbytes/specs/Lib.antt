@@ -1,0 +1,2 @@
+pub mod RowLayout
+pub mod RowBytes
