@@ -16,7 +16,9 @@ pub struct Clock {
 // "Limits of 001 in ticks: initial 200, alive check 50, general 30,000."
 impl Clock {
     pub const INITIAL: u16 = 200;
+
     pub const CHECK: u16 = 50;
+
     pub const GENERAL: u16 = 30000;
 
     pub fn fresh() -> Self

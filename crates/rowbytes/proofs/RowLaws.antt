@@ -107,6 +107,7 @@ past-all r h = by (r .state) (r .place)
   where
     tail : drop 8 (r .head ++ (0 ∷ [])) ≡ 0 ∷ []
     tail = drop-at (r .head) (0 ∷ []) 8 h
+
     by : (s : RowState) (p : Place) → drop 19 (stateImage s ++ (placeImage p ++ (r .head ++ (0 ∷ [])))) ≡ 0 ∷ []
     by Free (Header n) = tail
     by Free (Reading n) = tail

@@ -5,3 +5,4 @@ pub mod RowStores
 pub mod LineStores
 pub mod MarkLaws
 pub mod WholeLaws
+pub mod Example

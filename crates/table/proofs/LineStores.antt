@@ -161,7 +161,7 @@ module _ (x : ℕ) (s : List ℕ) (i : ℕ) (t : List ℕ) (k : ℕ) (w : Kept x
       let z : without x (take (i + 1) s) ≡ l ++ (y ∷ []) = next h ∙ ap (λ (b : Bool). l ++ pick b [] (y ∷ [])) (ne-eqb x (getD s i 0) e) in
       record {
         are = ap (λ (a : List ℕ). set a k y) (w .are) ∙ ap (λ (n : ℕ). set (padded l) n y) (w .many)
-        ∙ filled-next seats 0 l y (omega (arith, w .many, kept-few)) ∙ ap padded (sym z);
+            ∙ filled-next seats 0 l y (omega (arith, w .many, kept-few)) ∙ ap padded (sym z);
         many = omega (arith, w .many, ap length z, length-append (without x (take i s)) (getD s i 0 ∷ []));
       }
 

@@ -63,10 +63,10 @@ pub fn put_row(b: &mut [u8], i: usize, row: Row)
     let head = row.head;
     let state = rowbytes::state_bytes(s);
     let place = rowbytes::place_bytes(p);
-    let a = ROWS + i * ROW;
-    octets::put(b, a, &state);
-    octets::put(b, a + PLACE, &place);
-    octets::put(b, a + HEAD, &head);
+    let at = ROWS + i * ROW;
+    octets::put(b, at, &state);
+    octets::put(b, at + PLACE, &place);
+    octets::put(b, at + HEAD, &head);
 }
 
 // The ticks alone: two bytes of the row. A row that has no ticks stays as it is.

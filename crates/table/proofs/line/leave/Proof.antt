@@ -57,12 +57,13 @@ loop-again c =
     let s : List ℕ = c .before .before .before .before .seats-of .result in
     let b : List ℕ = c .before .before .before .before .before .before .before .before .before .args .b .now in
     let n : length s ≡ seats = ap length (c .before .before .before .before .seats-of .ensures) ∙ length-part b seatsAt seats (omega (arith, c .before .before .before .before .before .before .before .before .before .pre .long)) in
-    let h : l .i < seats = omega (arith, few b, c .before .before .before .before .before .before .waiting .ensures) in
-    (omega arith,
-    ⊎-elim
-    (λ v. kept-as (v .1) (v .2) (kept-keeps _ s (l .i) _ _ (l .inv .1) (omega arith) h (λ e. v .0 .taken (c .before .wide .ensures ∙ sym e))))
-    (λ v. kept-as (v .1) (v .2) (kept-drops _ s (l .i) _ _ (l .inv .1) (omega arith) (sym (v .0 .left) ∙ c .before .wide .ensures)))
-    (c .if1 .came))
+    let h : l .i < seats = omega (arith, few b, c .before .before .before .before .before .before .waiting .ensures) in (
+      omega arith,
+      ⊎-elim
+          (λ v. kept-as (v .1) (v .2) (kept-keeps _ s (l .i) _ _ (l .inv .1) (omega arith) h (λ e. v .0 .taken (c .before .wide .ensures ∙ sym e))))
+          (λ v. kept-as (v .1) (v .2) (kept-drops _ s (l .i) _ _ (l .inv .1) (omega arith) (sym (v .0 .left) ∙ c .before .wide .ensures)))
+          (c .if1 .came),
+    )
 
 cast-store : tie.Need-cast-store Inv-loop μ-loop
 cast-store c = omega (arith, few (c .before .before .before .before .before .before .before .before .args .b .now), c .before .before .before .before .before .waiting .ensures, kept-few _ _ _ _ _ (c .before .before .loop .inv .1))

@@ -44,10 +44,11 @@ loop-less c = search needs
 loop-again : tie.Need-loop-again Inv-loop μ-loop
 loop-again c =
     let s = c .before .before .before .before in
-    let l = c .before .before .loop in
-    (omega arith,
-    put-one-more (s .args .b .now) (s .args .t2) (nine s) (l .b) (l .i) _ (s .pre .long) (c .before .loop-test .taken) (l .inv .1) (c .mark-byte .ensures),
-    length-set (l .b) (marksAt + l .i) _ ∙ l .inv .2)
+    let l = c .before .before .loop in (
+      omega arith,
+      put-one-more (s .args .b .now) (s .args .t2) (nine s) (l .b) (l .i) _ (s .pre .long) (c .before .loop-test .taken) (l .inv .1) (c .mark-byte .ensures),
+      length-set (l .b) (marksAt + l .i) _ ∙ l .inv .2,
+    )
 
 same-length : tie.Need-same-length Inv-loop μ-loop
 same-length c = c .before .loop .inv .2

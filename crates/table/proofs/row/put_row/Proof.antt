@@ -22,11 +22,11 @@ state-bytes-requires c κs = search needs
 place-bytes-requires : tie.Need-place-bytes-requires
 place-bytes-requires c κs = search needs
 
-mul-a : tie.Need-mul-a
-mul-a c = search needs
+mul-at : tie.Need-mul-at
+mul-at c = search needs
 
-add-a : tie.Need-add-a
-add-a c = search needs
+add-at : tie.Need-add-at
+add-at c = search needs
 
 slice-aggregate-put : tie.Need-slice-aggregate-put
 slice-aggregate-put c = search needs
@@ -74,8 +74,8 @@ put-row-spec =
     (tie.spec
     state-bytes-requires
     place-bytes-requires
-    mul-a
-    add-a
+    mul-at
+    add-at
     slice-aggregate-put
     put-requires
     add-put

@@ -68,9 +68,10 @@ loop-again c =
     let b : List ℕ = c .before .before .before .before .before .before .args .b .now in
     let l = c .before .before .before .before .loop in
     let at : ℕ = rowsAt + l .i * rowSize in
-    let e : take (at + rowSize - at) (drop at b) ≡ part b at rowSize = part-between b at (at + rowSize) rowSize refl in
-    (omega (arith, c .before .before .before .loop-test .taken),
-    below-more _ _ (l .inv .1) (subst (λ (x : List ℕ). RowOk x) e (c .before .row-ok .ensures .right (not-false _ (c .if1 .left)))))
+    let e : take (at + rowSize - at) (drop at b) ≡ part b at rowSize = part-between b at (at + rowSize) rowSize refl in (
+      omega (arith, c .before .before .before .loop-test .taken),
+      below-more _ _ (l .inv .1) (subst (λ (x : List ℕ). RowOk x) e (c .before .row-ok .ensures .right (not-false _ (c .if1 .left)))),
+    )
 
 returns-2 : tie.Need-returns-2 Inv-loop μ-loop
 returns-2 c = let s = c .before .before .before in says-yes (rows-pass (s .args .b .now) (s .pre) (λ k h. c .before .loop .inv .1 k (omega (arith, c .loop-test .left))))
