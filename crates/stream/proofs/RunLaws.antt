@@ -5,7 +5,7 @@ use Prim.Native.Nat.{ℕ, zero, suc, _+_, _-_, _≤_, _<_, min}
 use mathlib.Core.Path.{_≡_, refl, sym, ap, _∙_}
 use mathlib.Core.Bool.{Bool, true, false, false≢true}
 use mathlib.Core.List.{List, [], _∷_, _++_, append-assoc}
-use native.Mathlib.Nat.{add-assoc, add-zero}
+use native.Mathlib.Nat.{add-zero}
 use native.Mathlib.Numerals.{add-one}
 use native.Mathlib.Omega.{arith}
 use lib.Dec.{ltb}
@@ -15,11 +15,34 @@ use borrow.Author.Tests.{lt-ltb, le-ltb}
 use Rattle.octets.specs.Choice.{pick}
 use Rattle.octets.specs.Put.{putAt}
 use Rattle.octets.proofs.PutLaws.{putAt-putAt, putAt-none}
+use Rattle.wire.specs.declared.header.Header.{Header as Head}
 use Rattle.wire.specs.Header.{headerSize, headerAt, verdictOf}
+use Rattle.kinds.specs.declared.Event.{Event as Ours}
+use Rattle.kinds.specs.declared.Event.the-variants.{InputEnded, Wrong, Finished, Skipped}
 use Rattle.kinds.specs.declared.Place.the-variants.{Header, Reading, Skipping}
-use Rattle.model.specs.Stream.{Stream, inputEnded, finished, skipped, Fed, more, ends, streamOf, rested, isStored, judged, feed, Taken, taken, oneMore, takesBy, takes}
+use Rattle.model.specs.Stream.{
+  Stream,
+  Event,
+  inputEnded,
+  wrong,
+  finished,
+  skipped,
+  Fed,
+  more,
+  ends,
+  streamOf,
+  rested,
+  isStored,
+  judged,
+  feed,
+  Taken,
+  taken,
+  oneMore,
+  takesBy,
+  takes,
+}
 use Rattle.stream.specs.declared.Took.{Took}
-use Rattle.stream.specs.Took.{takenOf, Takes, keptRun, further, takesAfter}
+use Rattle.stream.specs.Took.{eventOf, takenOf, Takes, keptRun, takesAfter}
 
 -- ---- one byte, then a run
 
@@ -117,51 +140,53 @@ module _ (at : ℕ → List ℕ → Stream) (size : ℕ) (kept : Bool) (last : L
 
 -- ---- the three parts: a header, a payload that is read, a payload that is skipped
 
-module _ (room : List ℕ) where
-  pub header-short : (n k : ℕ) (head bs : List ℕ) → length head ≡ headerSize → k ≡ min (headerSize - n) (length bs) → k < headerSize - n
+module _ (head room : List ℕ) (eight : length head ≡ headerSize) (n k : ℕ) (bs : List ℕ) (most : k ≡ min (headerSize - n) (length bs)) where
+  pub header-short : k < headerSize - n
       → takes (streamOf (Header n) head room) bs ≡ taken k inputEnded (streamOf (Header (n + k)) (putAt head n (take k bs)) room)
   unfolding feed
-  header-short n k head bs l =
-      falls-short (λ m x. streamOf (Header m) x room) headerSize true (λ x. judged (verdictOf (headerAt x 0)) x room) (λ m x b. refl) n k head bs (λ _. omega arith)
+  header-short h =
+      falls-short (λ m x. streamOf (Header m) x room) headerSize true (λ x. judged (verdictOf (headerAt x 0)) x room) (λ m x b. refl)
+      n k head bs (λ _. omega arith) most h
 
-  pub header-whole : (n k : ℕ) (head bs : List ℕ) → length head ≡ headerSize → n < headerSize → k ≡ min (headerSize - n) (length bs) → headerSize - n ≤ k
+  pub header-whole : n < headerSize → headerSize - n ≤ k
       → takes (streamOf (Header n) head room) bs
       ≡ takesAfter k (judged (verdictOf (headerAt (putAt head n (take k bs)) 0)) (putAt head n (take k bs)) room) (λ t. takes t (drop k bs))
   unfolding feed
-  header-whole n k head bs l w =
-      comes-whole (λ m x. streamOf (Header m) x room) headerSize true (λ x. judged (verdictOf (headerAt x 0)) x room) (λ m x b. refl) n k head bs w (λ _. omega arith)
+  header-whole w h =
+      comes-whole (λ m x. streamOf (Header m) x room) headerSize true (λ x. judged (verdictOf (headerAt x 0)) x room) (λ m x b. refl)
+      n k head bs w (λ _. omega arith) most h
 
-module _ (head : List ℕ) (n k : ℕ) (room bs : List ℕ) (smaller : k ≡ min (headerAt head 0 .length - n) (length bs)) where
-  pub reading-short : Fits (isStored (headerAt head 0 .kind)) room (headerAt head 0 .length) → k < headerAt head 0 .length - n
+-- h is the header of the payload
+module _ (head room : List ℕ) (h : Head) (is : h ≡ headerAt head 0) (n k : ℕ) (bs : List ℕ) (most : k ≡ min (h .length - n) (length bs)) where
+  pub reading-short : Fits (isStored (h .kind)) room (h .length) → k < h .length - n
       → takes (streamOf (Reading n) head room) bs
-      ≡ taken k inputEnded (streamOf (Reading (n + k)) head (keptRun (isStored (headerAt head 0 .kind)) room n (take k bs)))
+      ≡ taken k inputEnded (streamOf (Reading (n + k)) head (keptRun (isStored (h .kind)) room n (take k bs)))
   unfolding feed
-  reading-short f h =
-      falls-short (λ m x. streamOf (Reading m) head x) (headerAt head 0 .length) (isStored (headerAt head 0 .kind))
-      (λ x. ends (finished (headerAt head 0 .kind) (headerAt head 0 .length)) (rested x)) (λ m x b. refl) n k room bs f smaller h
+  reading-short f l =
+      falls-short (λ m x. streamOf (Reading m) head x) (h .length) (isStored (h .kind)) (λ x. ends (finished (h .kind) (h .length)) (rested x))
+      (λ m x b. rw is) n k room bs f most l
 
-  pub reading-whole : Fits (isStored (headerAt head 0 .kind)) room (headerAt head 0 .length) → n < headerAt head 0 .length
-      → headerAt head 0 .length - n ≤ k
+  pub reading-whole : Fits (isStored (h .kind)) room (h .length) → n < h .length → h .length - n ≤ k
       → takes (streamOf (Reading n) head room) bs
-      ≡ taken k (finished (headerAt head 0 .kind) (headerAt head 0 .length)) (rested (keptRun (isStored (headerAt head 0 .kind)) room n (take k bs)))
+      ≡ taken k (finished (h .kind) (h .length)) (rested (keptRun (isStored (h .kind)) room n (take k bs)))
   unfolding feed
-  reading-whole f w h =
-      comes-whole (λ m x. streamOf (Reading m) head x) (headerAt head 0 .length) (isStored (headerAt head 0 .kind))
-      (λ x. ends (finished (headerAt head 0 .kind) (headerAt head 0 .length)) (rested x)) (λ m x b. refl) n k room bs w f smaller h
+  reading-whole f w l =
+      comes-whole (λ m x. streamOf (Reading m) head x) (h .length) (isStored (h .kind)) (λ x. ends (finished (h .kind) (h .length)) (rested x))
+      (λ m x b. rw is) n k room bs w f most l
 
-  pub skipping-short : k < headerAt head 0 .length - n
+  pub skipping-short : k < h .length - n
       → takes (streamOf (Skipping n) head room) bs ≡ taken k inputEnded (streamOf (Skipping (n + k)) head room)
   unfolding feed
-  skipping-short h =
-      falls-short (λ m x. streamOf (Skipping m) head x) (headerAt head 0 .length) false
-      (λ x. ends (skipped (headerAt head 0 .length)) (rested x)) (λ m x b. refl) n k room bs (λ e. absurd (false≢true e)) smaller h
+  skipping-short l =
+      falls-short (λ m x. streamOf (Skipping m) head x) (h .length) false (λ x. ends (skipped (h .length)) (rested x)) (λ m x b. rw is)
+      n k room bs (λ e. absurd (false≢true e)) most l
 
-  pub skipping-whole : n < headerAt head 0 .length → headerAt head 0 .length - n ≤ k
-      → takes (streamOf (Skipping n) head room) bs ≡ taken k (skipped (headerAt head 0 .length)) (rested room)
+  pub skipping-whole : n < h .length → h .length - n ≤ k
+      → takes (streamOf (Skipping n) head room) bs ≡ taken k (skipped (h .length)) (rested room)
   unfolding feed
-  skipping-whole w h =
-      comes-whole (λ m x. streamOf (Skipping m) head x) (headerAt head 0 .length) false
-      (λ x. ends (skipped (headerAt head 0 .length)) (rested x)) (λ m x b. refl) n k room bs w (λ e. absurd (false≢true e)) smaller h
+  skipping-whole w l =
+      comes-whole (λ m x. streamOf (Skipping m) head x) (h .length) false (λ x. ends (skipped (h .length)) (rested x)) (λ m x b. rw is)
+      n k room bs w (λ e. absurd (false≢true e)) most l
 
 -- no more is taken than there is
 pub takes-few : (s : Stream) (bs : List ℕ) → takes s bs .count ≤ length bs
@@ -185,6 +210,25 @@ takes-all e =
       room = ap (λ (t : Taken). t .stream .room) e;
     }
 
--- the five parts are all of it: two answers that the contract allows are one
+-- the five parts are all of it
 pub takes-one : {r : Took} {room : List ℕ} {t : Taken} → Takes r room t → takenOf r room ≡ t
 takes-one k = rw (k .count, k .event, k .place, k .head, k .room)
+
+-- an event of the model is one of ours
+abbrev ourEvent : Event → Ours
+ourEvent inputEnded = InputEnded
+ourEvent (wrong fault) = Wrong fault
+ourEvent (finished kind size) = Finished kind size
+ourEvent (skipped size) = Skipped size
+
+same-event : (e : Ours) → ourEvent (eventOf e) ≡ e
+same-event InputEnded = refl
+same-event (Wrong fault) = refl
+same-event (Finished kind size) = refl
+same-event (Skipped size) = refl
+
+-- so the contract leaves no choice: two answers that it allows are one, and so are the rooms that they leave
+pub takes-settled : {r q : Took} {room place : List ℕ} {t : Taken} → Takes r room t → Takes q place t → (r ≡ q) × (room ≡ place)
+takes-settled {r} {q} a b =
+    let e : r .event ≡ q .event = sym (same-event (r .event)) ∙ ap ourEvent (a .event ∙ sym (b .event)) ∙ same-event (q .event) in
+    (rw (a .count ∙ sym (b .count), e, a .place ∙ sym (b .place), a .head ∙ sym (b .head)), a .room ∙ sym (b .room))

@@ -9,14 +9,14 @@ ghost use mathlib.Core.List.{List};
 ghost use Prim.Native.Nat.{ℕ, _+_, _≤_, _<_, _^_, min};
 ghost use lib.ListN.{length, drop};
 ghost use Rattle.kinds.specs.declared.Place.the-variants.{Header, Reading, Skipping};
-ghost use Rattle.wire.specs.Header.{headerSize, headerAt, verdictOf, mostPayload};
+ghost use Rattle.wire.specs.Header.{headerAt, verdictOf, mostPayload};
 ghost use Rattle.model.specs.Rule.{PossibleAt};
 ghost use Rattle.model.specs.Stream.{isStored, streamOf, taken, wrong, judged, afterWrong, takes};
 ghost use Rattle.stream.specs.Took.{takenOf, Takes, keptRun, between, laterBy, takesAfter};
 
 const HEADER_SIZE: usize = 8;
 
-// How many bytes were taken and what ended it, then where the row's stream is. The payload is in the row's room.
+// How many bytes were taken, what ended the call, and where the row's stream is then. The payload is in the row's room.
 pub struct Took {
     pub count: usize,
     pub event: Event,
@@ -81,6 +81,7 @@ fn store(kind: u16, room: &mut [u8], at: usize, bytes: &[u8])
     }
 }
 
+// A payload whose header passed: all of the input, or what is left of the payload, and then the message is finished.
 fn take_reading(n: u32, head: [u8; 8], room: &mut [u8], input: &[u8]) -> Took
     requires { ⌜ (length (now room) ≡ mostPayload) × PossibleAt (Reading n) head ⌝ }
     ensures { λ r. ⌜ takenOf r (now (room .exit)) ≡ takes (streamOf (Reading n) head (now (room .entry))) (now (input .entry)) ⌝ }
@@ -100,7 +101,7 @@ fn take_reading(n: u32, head: [u8; 8], room: &mut [u8], input: &[u8]) -> Took
     }
 }
 
-// The room is not lent: what is skipped is not stored.
+// A payload that is skipped, likewise. The room is not lent: what is skipped is not stored.
 fn take_skipping(n: u32, head: [u8; 8], input: &[u8]) -> Took
     requires { ⌜ PossibleAt (Skipping n) head ⌝ }
     ensures { λ r. ⌜ ((room : List ℕ) → takenOf r room ≡ takes (streamOf (Skipping n) head room) (now (input .entry))) ⌝ }
@@ -138,7 +139,8 @@ fn after_wrong(count: usize, f: Fault, head: [u8; 8]) -> Took
     rested(count, Event::Wrong(f))
 }
 
-// "Judged when all eight are in": the last of them is before the place k of the input.
+// "Judged when all eight are in": k bytes of the input went into them. A header that passes goes on with its payload in the same call; any
+// wrong one ends it.
 fn after_eighth(head: [u8; 8], room: &mut [u8], input: &[u8], k: usize) -> Took
     requires { ⌜ (length (now room) ≡ mostPayload) × (k ≤ length (now input)) ⌝ }
     ensures { λ r. ⌜ takenOf r (now (room .exit)) ≡ takesAfter k (judged (verdictOf (headerAt head 0)) head (now (room .entry))) (λ t. takes t (drop k (now (input .entry)))) ⌝ }
@@ -149,6 +151,7 @@ fn after_eighth(head: [u8; 8], room: &mut [u8], input: &[u8], k: usize) -> Took
     }
 }
 
+// Header bytes: all of the input, or what is left of the eight, and then the header is judged.
 fn take_header(n: u8, head: [u8; 8], room: &mut [u8], input: &[u8]) -> Took
     requires { ⌜ (length (now room) ≡ mostPayload) × PossibleAt (Header n) head ⌝ }
     ensures { λ r. ⌜ takenOf r (now (room .exit)) ≡ takes (streamOf (Header n) head (now (room .entry))) (now (input .entry)) ⌝ }
@@ -169,6 +172,7 @@ fn take_header(n: u8, head: [u8; 8], room: &mut [u8], input: &[u8]) -> Took
     }
 }
 
+// What a bytes call takes of its input, and where the row's stream is then: as the machine of single bytes has it.
 pub fn take(place: Place, head: [u8; 8], room: &mut [u8], input: &[u8]) -> Took
     requires { ⌜ (length (now room) ≡ mostPayload) × PossibleAt place head ⌝ }
     ensures { λ r. ⌜ Takes r (now (room .exit)) (takes (streamOf place head (now (room .entry))) (now (input .entry))) ⌝ }

@@ -1,6 +1,6 @@
 -- `stream::after_eighth` meets its contract: a header that passes goes on with its payload, a wrong one ends the call.
 -- Assumes nothing.
-use Prim.Native.Nat.{ℕ, _+_, _-_, _≤_, min}
+use Prim.Native.Nat.{ℕ, _-_}
 use mathlib.Core.Path.{_≡_, sym, ap, _∙_}
 use mathlib.Core.List.{List}
 use native.Mathlib.Omega.{arith}
@@ -46,17 +46,21 @@ part-take-reading-end : tie.Need-part-take-reading-end
 part-take-reading-end c = search needs
 
 take-reading-requires : tie.Need-take-reading-requires
-take-reading-requires c κs = let v = passes (c .before .before) in (c .before .before .before .before .before .before .before .before .before .pre .0, (passes-some (headerAt (c .before .before .before .before .before .before .before .before .before .args .t1) 0) v, v))
+take-reading-requires c κs =
+    let s = c .before .before .before .before .before .before .before .before .before in
+    let v = passes (c .before .before) in
+    (s .pre .0, (passes-some (headerAt (s .args .t1) 0) v, v))
 
 later-requires : tie.Need-later-requires
 later-requires c κs =
     let a = c .before .before .before .before .before .before .before .before .before .before .before .before .args in
-    let rest : List ℕ = take (length (now (a .input)) - a .k) (drop (a .k) (now (a .input))) in
+    let rest : List ℕ = drop (a .k) (now (a .input)) in
+    let n : ℕ = length (now (a .input)) - a .k in
     omega (
       arith,
       ap (λ (t : Taken). t .count) (c .before .before .take-reading .ensures),
-      takes-few (streamOf (Reading 0) (a .t1) (now (a .room))) rest,
-      length-take (length (now (a .input)) - a .k) (drop (a .k) (now (a .input))),
+      takes-few (streamOf (Reading 0) (a .t1) (now (a .room))) (take n rest),
+      length-take n rest,
       length-drop (a .k) (now (a .input)),
     )
 
@@ -72,9 +76,10 @@ same-length c = search needs
 returns : tie.Need-returns
 returns c =
     let a = c .before .before .before .before .before .before .before .before .before .before .before .before .before .args in
+    let w = c .before .before .before .take-reading in
     let rest : List ℕ = drop (a .k) (now (a .input)) in
-    ap (λ (r : Took). takenOf r (c .before .before .before .take-reading .last .1 .1 .0)) (c .later .ensures)
-    ∙ ap (further (a .k)) (c .before .before .before .take-reading .ensures)
+    ap (λ (t : Took). takenOf t (w .last .1 .1 .0)) (c .later .ensures)
+    ∙ ap (further (a .k)) (w .ensures)
     ∙ ap (λ (l : List ℕ). further (a .k) (takes (streamOf (Reading 0) (a .t1) (now (a .room))) l))
     (take-all (length (now (a .input)) - a .k) rest (omega (arith, length-drop (a .k) (now (a .input)))))
     ∙ ap (λ (v : Verdict). takesAfter (a .k) (judged v (a .t1) (now (a .room))) (λ t. takes t rest)) (sym (passes (c .before .before .before .before .before .before)))
@@ -82,8 +87,9 @@ returns c =
 returns-2 : tie.Need-returns-2
 returns-2 c =
     let a = c .before .before .before .before .before .before .before .before .before .args in
+    let rest : List ℕ = drop (a .k) (now (a .input)) in
     c .after-wrong .ensures (now (a .room))
-    ∙ ap (λ (v : Verdict). takesAfter (a .k) (judged v (a .t1) (now (a .room))) (λ t. takes t (drop (a .k) (now (a .input)))))
+    ∙ ap (λ (v : Verdict). takesAfter (a .k) (judged v (a .t1) (now (a .room))) (λ t. takes t rest))
     (sym (c .before .before .f .given .1) ∙ c .before .before .before .before .judge .ensures ∙ ap verdictOf (c .before .before .before .before .before .read .ensures))
 
 pub after-eighth-spec : {M : Type 1} → statement M

@@ -1,6 +1,5 @@
 -- `stream::after_wrong` meets its contract, whatever the room holds: the two tests are those of the definition.
 -- Assumes nothing.
-use Prim.Native.Nat.{_<_}
 use mathlib.Core.Path.{_≡_, sym, ap, _∙_}
 use native.Mathlib.Omega.{arith}
 use borrow.Author.Tests.{ne-eqb, eq-eqb}

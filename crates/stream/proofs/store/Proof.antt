@@ -1,6 +1,6 @@
 -- `stream::store` meets its contract: the bytes are put where the type is one of the three, else the room stays.
 -- Assumes nothing.
-use mathlib.Core.Path.{refl, sym, _∙_}
+use mathlib.Core.Path.{sym, _∙_}
 use borrow.Author.Needs.{needs}
 use Rattle.stream.proofs.store.Statement.{statement}
 use Rattle.stream.proofs.store.Tie as tie

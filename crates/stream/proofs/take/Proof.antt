@@ -1,13 +1,16 @@
--- `stream::take` meets its contract: one of the three parts of a message.
+-- `stream::take` meets its contract: the place says which part of a message goes on.
 -- Assumes nothing.
-use mathlib.Core.Path.{_≡_, sym, ap, _∙_}
+use mathlib.Core.Path.{sym, ap, _∙_}
 use denote.Ref.{now}
 use Rattle.kinds.specs.declared.Place.{Place}
-use Rattle.model.specs.Stream.{streamOf, takes}
+use Rattle.model.specs.Stream.{Taken, streamOf, takes}
 use Rattle.stream.proofs.RunLaws.{takes-all}
 use borrow.Author.Needs.{needs}
 use Rattle.stream.proofs.take.Statement.{statement}
 use Rattle.stream.proofs.take.Tie as tie
+
+abbrev takesFrom : tie.Start → Place → Taken
+takesFrom c p = takes (streamOf p (c .args .head) (now (c .args .room))) (now (c .args .input))
 
 enum-known-place : tie.Need-enum-known-place
 enum-known-place c = search needs
@@ -31,22 +34,16 @@ same-length : tie.Need-same-length
 same-length c = search needs
 
 returns : tie.Need-returns
-returns c =
-    let a = c .before .before .before .before .before .before .before .before .before .args in
-    takes-all (c .before .before .take-header .ensures ∙ ap (λ (p : Place). takes (streamOf p (a .head) (now (a .room))) (now (a .input))) (sym (c .before .before .before .before .before .place .given .1)))
+returns c = takes-all (c .before .before .take-header .ensures ∙ ap (takesFrom (c .before .before .before .before .before .before .before .before .before)) (sym (c .before .before .before .before .before .place .given .1)))
 
 same-length-2 : tie.Need-same-length-2
 same-length-2 c = search needs
 
 returns-2 : tie.Need-returns-2
-returns-2 c =
-    let a = c .before .before .before .before .before .before .before .before .before .args in
-    takes-all (c .before .before .take-reading .ensures ∙ ap (λ (p : Place). takes (streamOf p (a .head) (now (a .room))) (now (a .input))) (sym (c .before .before .before .before .before .place2 .given .1)))
+returns-2 c = takes-all (c .before .before .take-reading .ensures ∙ ap (takesFrom (c .before .before .before .before .before .before .before .before .before)) (sym (c .before .before .before .before .before .place2 .given .1)))
 
 returns-3 : tie.Need-returns-3
-returns-3 c =
-    let a = c .before .before .before .before .before .before .args in
-    takes-all (c .take-skipping .ensures (now (a .room)) ∙ ap (λ (p : Place). takes (streamOf p (a .head) (now (a .room))) (now (a .input))) (sym (c .before .before .place3 .given .1)))
+returns-3 c = takes-all (c .take-skipping .ensures (now (c .before .before .before .before .before .before .args .room)) ∙ ap (takesFrom (c .before .before .before .before .before .before)) (sym (c .before .before .place3 .given .1)))
 
 pub take-spec : {M : Type 1} → statement M
 take-spec =

@@ -1,12 +1,11 @@
 -- `stream::take_header` meets its contract: a run of header bytes at once.
 -- Assumes nothing.
-use Prim.Native.Nat.{ℕ, _+_, _-_, _≤_, min}
+use Prim.Native.Nat.{ℕ, _+_}
 use mathlib.Core.Path.{_≡_, sym, ap, _∙_}
 use mathlib.Core.List.{List}
 use native.Mathlib.Omega.{arith}
 use denote.Ref.{now}
-use lib.ListN.{length, take, drop, length-take, length-drop}
-use Rattle.octets.specs.Put.{putAt}
+use lib.ListN.{length, drop, length-take}
 use Rattle.kinds.specs.declared.Place.the-variants.{Header}
 use Rattle.wire.specs.Header.{headerAt, verdictOf, headerSize}
 use Rattle.model.specs.Stream.{inputEnded, streamOf, judged, taken, takes}
@@ -33,7 +32,9 @@ slice-aggregate-put-2 c = omega (arith, c .before .before .smaller .ensures, len
 
 put-requires : tie.Need-put-requires
 put-requires c κs =
-    omega (arith, c .before .before .smaller .ensures, length-take (c .before .before .smaller .result) (now (c .before .before .before .before .before .args .input)), eight (c .before .before .before .before .before), c .before .before .before .before .before .pre .1)
+    let s = c .before .before .before .before .before in
+    let m = c .before .before .smaller in
+    omega (arith, m .ensures, length-take (m .result) (now (s .args .input)), eight s, s .pre .1)
 
 after-eighth-requires : tie.Need-after-eighth-requires
 after-eighth-requires c κs = search needs
@@ -43,11 +44,14 @@ same-length c = search needs
 
 returns : tie.Need-returns
 returns c =
-    let a = c .before .before .before .before .before .before .before .before .before .before .before .before .args in
-    let k : ℕ = c .before .before .before .before .before .before .before .before .before .smaller .result in
+    let s = c .before .before .before .before .before .before .before .before .before .before .before .before in
+    let a = s .args in
+    let m = c .before .before .before .before .before .before .before .before .before .smaller in
+    let rest : List ℕ = drop (m .result) (now (a .input)) in
     c .before .before .after-eighth .ensures
-    ∙ ap (λ (x : List ℕ). takesAfter k (judged (verdictOf (headerAt x 0)) x (now (a .room))) (λ t. takes t (drop k (now (a .input))))) (c .before .before .before .before .before .before .put .ensures)
-    ∙ sym (header-whole (now (a .room)) (a .n) k (a .head) (now (a .input)) (eight (c .before .before .before .before .before .before .before .before .before .before .before .before)) (c .before .before .before .before .before .before .before .before .before .before .before .before .pre .1) (c .before .before .before .before .before .before .before .before .before .smaller .ensures) (c .before .before .before .before .if1 .taken))
+    ∙ ap (λ (x : List ℕ). takesAfter (m .result) (judged (verdictOf (headerAt x 0)) x (now (a .room))) (λ t. takes t rest)) (c .before .before .before .before .before .before .put .ensures)
+    ∙ sym
+    (header-whole (a .head) (now (a .room)) (eight s) (a .n) (m .result) (now (a .input)) (m .ensures) (s .pre .1) (c .before .before .before .before .if1 .taken))
 
 add-t9 : tie.Need-add-t9
 add-t9 c = search needs
@@ -57,10 +61,11 @@ cast-t20 c = search needs
 
 returns-2 : tie.Need-returns-2
 returns-2 c =
-    let a = c .before .before .before .before .before .before .before .before .args in
-    let k : ℕ = c .before .before .before .before .before .smaller .result in
-    ap (λ (x : List ℕ). taken k inputEnded (streamOf (Header (a .n + k)) x (now (a .room)))) (c .before .before .put .ensures)
-    ∙ sym (header-short (now (a .room)) (a .n) k (a .head) (now (a .input)) (eight (c .before .before .before .before .before .before .before .before)) (c .before .before .before .before .before .smaller .ensures) (c .if1 .left))
+    let s = c .before .before .before .before .before .before .before .before in
+    let a = s .args in
+    let m = c .before .before .before .before .before .smaller in
+    ap (λ (x : List ℕ). taken (m .result) inputEnded (streamOf (Header (a .n + m .result)) x (now (a .room)))) (c .before .before .put .ensures)
+    ∙ sym (header-short (a .head) (now (a .room)) (eight s) (a .n) (m .result) (now (a .input)) (m .ensures) (c .if1 .left))
 
 pub take-header-spec : {M : Type 1} → statement M
 take-header-spec =

@@ -1,32 +1,32 @@
 -- `stream::take_reading` meets its contract: a run of payload bytes at once.
 -- Assumes nothing.
-use Prim.Native.Nat.{ℕ, _+_, _-_, _≤_, min}
+use Prim.Native.Nat.{ℕ, _+_, _≤_, _<_}
 use mathlib.Core.Path.{_≡_, sym, ap, _∙_}
 use mathlib.Core.List.{List}
 use native.Mathlib.Omega.{arith}
 use denote.Ref.{now}
-use lib.ListN.{length, take, drop, length-take, length-drop}
+use lib.ListN.{length, length-take}
 use Rattle.wire.specs.declared.header.Header.{Header as Head}
-use Rattle.wire.specs.Header.{headerAt, mostPayload}
+use Rattle.wire.specs.Header.{headerAt}
 use Rattle.wire.proofs.HeaderLaws.{passes-all}
 use Rattle.kinds.specs.declared.Place.the-variants.{Reading}
-use Rattle.model.specs.Stream.{inputEnded, finished, streamOf, rested, isStored, taken}
+use Rattle.model.specs.Stream.{inputEnded, finished, streamOf, rested, taken}
 use Rattle.stream.specs.declared.Took.{Took}
-use Rattle.stream.specs.Took.{takenOf, keptRun}
+use Rattle.stream.specs.Took.{takenOf}
 use Rattle.stream.proofs.RunLaws.{reading-short, reading-whole}
 use borrow.Author.Needs.{needs}
 use Rattle.stream.proofs.take_reading.Statement.{statement}
 use Rattle.stream.proofs.take_reading.Tie as tie
 
 -- a payload whose header passed has room
-room-fits : (c : tie.Start) → headerAt (c .args .t2) 0 .length ≤ length (now (c .args .room))
-room-fits c =
-    let p = passes-all (headerAt (c .args .t2) 0) (c .pre .1 .1) in
-    omega (arith, p .short, c .pre .0)
+has-room : (c : tie.After-read) → c .read .result .length ≤ length (now (c .before .before .before .before .args .room))
+has-room c =
+    let s = c .before .before .before .before in
+    let p = passes-all (headerAt (s .args .t2) 0) (s .pre .1 .1) in
+    omega (arith, ap (λ (h : Head). h .length) (c .read .ensures), p .short, s .pre .0)
 
-small : (c : tie.After-smaller) → c .smaller .result ≡ min (headerAt (c .before .before .before .before .before .before .args .t2) 0 .length - c .before .before .before .before .before .before .args .n) (length (now (c .before .before .before .before .before .before .args .input)))
-small c =
-    c .smaller .ensures ∙ ap (λ (h : Head). min (h .length - c .before .before .before .before .before .before .args .n) (length (now (c .before .before .before .before .before .before .args .input)))) (c .before .before .read .ensures)
+unfinished : (c : tie.After-read) → c .before .before .before .before .args .n < c .read .result .length
+unfinished c = omega (arith, ap (λ (h : Head). h .length) (c .read .ensures), c .before .before .before .before .pre .1 .0)
 
 slice-aggregate-read : tie.Need-slice-aggregate-read
 slice-aggregate-read c = search needs
@@ -35,7 +35,7 @@ read-requires : tie.Need-read-requires
 read-requires c κs = search needs
 
 sub-left : tie.Need-sub-left
-sub-left c = omega (arith, ap (λ (h : Head). h .length) (c .before .read .ensures), c .before .before .before .before .before .pre .1 .0)
+sub-left c = omega (arith, unfinished (c .before))
 
 cast-left : tie.Need-cast-left
 cast-left c = search needs
@@ -48,8 +48,9 @@ slice-aggregate-store c = omega (arith, c .before .before .smaller .ensures, len
 
 store-requires : tie.Need-store-requires
 store-requires c κs =
-    let s = small (c .before .before) in
-    omega (arith, s, length-take (c .before .before .smaller .result) (now (c .before .before .before .before .before .before .before .before .args .input)), room-fits (c .before .before .before .before .before .before .before .before), c .before .before .before .before .before .before .before .before .pre .0, c .before .before .before .before .before .before .before .before .pre .1 .0)
+    let m = c .before .before .smaller in
+    let r = c .before .before .before .before in
+    omega (arith, m .ensures, length-take (m .result) (now (c .before .before .before .before .before .before .before .before .args .input)), unfinished r, has-room r)
 
 rested-requires : tie.Need-rested-requires
 rested-requires c κs = search needs
@@ -60,15 +61,15 @@ same-length c = search needs
 returns : tie.Need-returns
 returns c =
     let a = c .before .before .before .before .before .before .before .before .before .before .before .before .before .args in
-    let k : ℕ = c .before .before .before .before .before .before .before .smaller .result in
-    ap (λ (r : Took). takenOf r (c .before .before .before .before .store .last .1 .0)) (c .rested .ensures)
-    ∙ ap (λ (x : List ℕ). taken k (finished (c .before .before .before .before .before .before .before .before .before .read .result .kind) (c .before .before .before .before .before .before .before .before .before .read .result .length)) (rested x)) (c .before .before .before .before .store .ensures)
-    ∙ ap
-    (λ (h : Head). taken k (finished (h .kind) (h .length)) (rested (keptRun (isStored (h .kind)) (now (a .room)) (a .n) (take k (now (a .input))))))
-    (c .before .before .before .before .before .before .before .before .before .read .ensures)
+    let r = c .before .before .before .before .before .before .before .before .before in
+    let m = c .before .before .before .before .before .before .before .smaller in
+    let w = c .before .before .before .before .store in
+    let e = finished (r .read .result .kind) (r .read .result .length) in
+    ap (λ (t : Took). takenOf t (w .last .1 .0)) (c .rested .ensures)
+    ∙ ap (λ (x : List ℕ). taken (m .result) e (rested x)) (w .ensures)
     ∙ sym
-    (reading-whole (a .t2) (a .n) k (now (a .room)) (now (a .input)) (small (c .before .before .before .before .before .before .before)) (λ _. room-fits (c .before .before .before .before .before .before .before .before .before .before .before .before .before)) (c .before .before .before .before .before .before .before .before .before .before .before .before .before .pre .1 .0)
-    (omega (arith, ap (λ (h : Head). h .length) (c .before .before .before .before .before .before .before .before .before .read .ensures), c .before .if1 .taken)))
+    (reading-whole (a .t2) (now (a .room)) (r .read .result) (r .read .ensures) (a .n) (m .result) (now (a .input)) (m .ensures) (λ _. has-room r)
+    (unfinished r) (c .before .if1 .taken))
 
 cast-t11 : tie.Need-cast-t11
 cast-t11 c = search needs
@@ -82,14 +83,12 @@ same-length-2 c = search needs
 returns-2 : tie.Need-returns-2
 returns-2 c =
     let a = c .before .before .before .before .before .before .before .before .before .before .before .before .args in
-    let k : ℕ = c .before .before .before .before .before .before .smaller .result in
-    ap (λ (x : List ℕ). taken k inputEnded (streamOf (Reading (a .n + k)) (a .t2) x)) (c .before .before .before .store .ensures)
-    ∙ ap
-    (λ (h : Head). taken k inputEnded (streamOf (Reading (a .n + k)) (a .t2) (keptRun (isStored (h .kind)) (now (a .room)) (a .n) (take k (now (a .input))))))
-    (c .before .before .before .before .before .before .before .before .read .ensures)
+    let r = c .before .before .before .before .before .before .before .before in
+    let m = c .before .before .before .before .before .before .smaller in
+    ap (λ (x : List ℕ). taken (m .result) inputEnded (streamOf (Reading (a .n + m .result)) (a .t2) x)) (c .before .before .before .store .ensures)
     ∙ sym
-    (reading-short (a .t2) (a .n) k (now (a .room)) (now (a .input)) (small (c .before .before .before .before .before .before)) (λ _. room-fits (c .before .before .before .before .before .before .before .before .before .before .before .before))
-    (omega (arith, ap (λ (h : Head). h .length) (c .before .before .before .before .before .before .before .before .read .ensures), c .if1 .left)))
+    (reading-short (a .t2) (now (a .room)) (r .read .result) (r .read .ensures) (a .n) (m .result) (now (a .input)) (m .ensures) (λ _. has-room r)
+    (c .if1 .left))
 
 pub take-reading-spec : {M : Type 1} → statement M
 take-reading-spec =

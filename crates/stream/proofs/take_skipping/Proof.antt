@@ -1,14 +1,10 @@
 -- `stream::take_skipping` meets its contract, whatever the room holds: a run of payload bytes at once, none of them stored.
 -- Assumes nothing.
-use Prim.Native.Nat.{ℕ, _+_, _-_, _≤_, min}
-use mathlib.Core.Path.{_≡_, sym, ap, _∙_}
-use mathlib.Core.List.{List}
+use Prim.Native.Nat.{_<_}
+use mathlib.Core.Path.{sym, ap, _∙_}
 use native.Mathlib.Omega.{arith}
 use denote.Ref.{now}
-use lib.ListN.{length, take, drop, length-take, length-drop}
 use Rattle.wire.specs.declared.header.Header.{Header as Head}
-use Rattle.wire.specs.Header.{headerAt}
-use Rattle.model.specs.Stream.{skipped, rested, taken}
 use Rattle.stream.specs.declared.Took.{Took}
 use Rattle.stream.specs.Took.{takenOf}
 use Rattle.stream.proofs.RunLaws.{skipping-short, skipping-whole}
@@ -16,9 +12,8 @@ use borrow.Author.Needs.{needs}
 use Rattle.stream.proofs.take_skipping.Statement.{statement}
 use Rattle.stream.proofs.take_skipping.Tie as tie
 
-small : (c : tie.After-smaller) → c .smaller .result ≡ min (headerAt (c .before .before .before .before .before .args .t2) 0 .length - c .before .before .before .before .before .args .n) (length (now (c .before .before .before .before .before .args .input)))
-small c =
-    c .smaller .ensures ∙ ap (λ (h : Head). min (h .length - c .before .before .before .before .before .args .n) (length (now (c .before .before .before .before .before .args .input)))) (c .before .before .read .ensures)
+unfinished : (c : tie.After-read) → c .before .before .before .args .n < c .read .result .length
+unfinished c = omega (arith, ap (λ (h : Head). h .length) (c .read .ensures), c .before .before .before .pre .0)
 
 slice-aggregate-read : tie.Need-slice-aggregate-read
 slice-aggregate-read c = search needs
@@ -27,7 +22,7 @@ read-requires : tie.Need-read-requires
 read-requires c κs = search needs
 
 sub-left : tie.Need-sub-left
-sub-left c = omega (arith, ap (λ (h : Head). h .length) (c .before .read .ensures), c .before .before .before .before .pre .0)
+sub-left c = omega (arith, unfinished (c .before))
 
 cast-left : tie.Need-cast-left
 cast-left c = search needs
@@ -41,13 +36,13 @@ rested-requires c κs = search needs
 returns : tie.Need-returns
 returns c =
     let a = c .before .before .before .before .before .before .before .args in
-    let k : ℕ = c .before .before .smaller .result in
+    let r = c .before .before .before .before in
+    let m = c .before .before .smaller in
     λ room.
-    ap (λ (r : Took). takenOf r room) (c .rested .ensures)
-    ∙ ap (λ (h : Head). taken k (skipped (h .length)) (rested room)) (c .before .before .before .before .read .ensures)
+    ap (λ (t : Took). takenOf t room) (c .rested .ensures)
     ∙ sym
-    (skipping-whole (a .t2) (a .n) k room (now (a .input)) (small (c .before .before)) (c .before .before .before .before .before .before .before .pre .0)
-    (omega (arith, ap (λ (h : Head). h .length) (c .before .before .before .before .read .ensures), c .before .if1 .taken)))
+    (skipping-whole (a .t2) room (r .read .result) (r .read .ensures) (a .n) (m .result) (now (a .input)) (m .ensures) (unfinished r)
+    (c .before .if1 .taken))
 
 cast-t10 : tie.Need-cast-t10
 cast-t10 c = search needs
@@ -58,10 +53,9 @@ add-t15 c = search needs
 returns-2 : tie.Need-returns-2
 returns-2 c =
     let a = c .before .before .before .before .before .before .args in
-    λ room.
-    sym
-    (skipping-short (a .t2) (a .n) (c .before .smaller .result) room (now (a .input)) (small (c .before))
-    (omega (arith, ap (λ (h : Head). h .length) (c .before .before .before .read .ensures), c .if1 .left)))
+    let r = c .before .before .before .read in
+    let m = c .before .smaller in
+    λ room. sym (skipping-short (a .t2) room (r .result) (r .ensures) (a .n) (m .result) (now (a .input)) (m .ensures) (c .if1 .left))
 
 pub take-skipping-spec : {M : Type 1} → statement M
 take-skipping-spec =
