@@ -228,7 +228,7 @@ same-event (Finished kind size) = refl
 same-event (Skipped size) = refl
 
 -- so the contract leaves no choice: two answers that it allows are one, and so are the rooms that they leave
-pub takes-settled : {r q : Took} {room place : List ℕ} {t : Taken} → Takes r room t → Takes q place t → (r ≡ q) × (room ≡ place)
+pub takes-settled : {r q : Took} {room other : List ℕ} {t : Taken} → Takes r room t → Takes q other t → (r ≡ q) × (room ≡ other)
 takes-settled {r} {q} a b =
     let e : r .event ≡ q .event = sym (same-event (r .event)) ∙ ap ourEvent (a .event ∙ sym (b .event)) ∙ same-event (q .event) in
     (rw (a .count ∙ sym (b .count), e, a .place ∙ sym (b .place), a .head ∙ sym (b .head)), a .room ∙ sym (b .room))

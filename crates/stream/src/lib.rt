@@ -14,6 +14,7 @@ ghost use Rattle.model.specs.Rule.{PossibleAt};
 ghost use Rattle.model.specs.Stream.{isStored, streamOf, taken, wrong, judged, afterWrong, takes};
 ghost use Rattle.stream.specs.Took.{takenOf, Takes, keptRun, between, laterBy, takesAfter};
 
+// "Eight bytes: version, inverse, type u16, payload length u32."
 const HEADER_SIZE: usize = 8;
 
 // How many bytes were taken, what ended the call, and where the row's stream is then. The payload is in the row's room.
