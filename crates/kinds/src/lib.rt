@@ -107,6 +107,15 @@ pub enum Verdict {
     Wrong(Fault),
 }
 
+// What ended a bytes call: "takes bytes until the input ends, a header is judged wrong, or one message is finished". A finished message has
+// its type and its payload's length, a skipped one its length.
+pub enum Event {
+    InputEnded,
+    Wrong(Fault),
+    Finished(u16, u32),
+    Skipped(u32),
+}
+
 // The verdict on a datagram; some are never answered, whatever is wrong with them.
 pub enum DatagramVerdict {
     NotAnswered,
