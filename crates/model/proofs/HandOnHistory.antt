@@ -28,7 +28,7 @@ use Rattle.model.specs.Table.{Table, slot, Call, bytesFrom, Lent, Whose,
 use Rattle.model.specs.History.{Made, fresh, stepOf, run}
 use Rattle.model.specs.HandsOn.{HandedOn}
 use Rattle.model.proofs.Cases.{pick-case, unless-case}
-use Rattle.model.proofs.Keeps.{slot-good, fresh-good, run-good}
+use Rattle.model.proofs.RuleKept.{slot-good, fresh-good, run-good}
 use Rattle.model.proofs.HandOnTable.{step-case, row-handed-on}
 
 -- ---- storing keeps a room's length

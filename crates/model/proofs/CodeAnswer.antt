@@ -1,4 +1,4 @@
--- "The answer is the one the rules give at the moment of deciding."
+-- "The answer is the one the rules give at the moment of deciding.": the answer to one head, and its reason.
 -- Assumes nothing.
 use Prim.Native.Nat.{ℕ}
 use mathlib.Core.Path.{_≡_, refl, ap, _∙_}
