@@ -27,6 +27,7 @@ use Rattle.model.specs.Bytes.{takenBy, eventDone, heard}
 use Rattle.model.specs.Move.{Own, bytes, peerClosed, Held}
 use Rattle.model.specs.Table.{Table, slot, Call, connectTo, bytesFrom, peerClosedOn, linkLostOf, tick, datagramTo, messageFrom, numberOf, itemsOf, tableOf}
 use Rattle.model.specs.History.{Made, stepOf}
+use Rattle.model.specs.HandsOn.{WholeOf, payloadOf, bytesAt}
 
 -- the seat stands in the line with k others before it: "the head being place 1", that is place k + 1
 pub data Stands (seat : ℕ) : List ℕ → ℕ → Type 0 where
@@ -59,6 +60,18 @@ pub record MustWait (s : List ℕ) (t : Table) (m : Made) (row farm seat : ℕ) 
   pub owner : ownerOf s row ≡ Seat (farmNo farm) seat
   pub whole : takenOf (slot t farm) seat input .event ≡ finished 0x0005 size
   pub reads : requestIn (take size (takenOf (slot t farm) seat input .stream .room)) ≡ q
+  pub waits : decide (slotSheet s farm) (slot t farm .farm .rows) seat q ≡ Ask check
+
+-- the same, said by the bytes: with this call, which is done, the bytes that the row has in hand and the input behind them begin with a whole
+-- 0005 that the header rules pass ("readable"), its payload holds this request, and the rules say that a check comes first
+pub record ReadableWaits (s : List ℕ) (t : Table) (m : Made) (row farm seat : ℕ) (q : Request) : Type 0 where
+  pub input : List ℕ
+  pub check : Check
+  pub bytesOf : m .call ≡ bytesFrom row input
+  pub done : isDone s t m ≡ true
+  pub owner : ownerOf s row ≡ Seat (farmNo farm) seat
+  pub readable : WholeOf 0x0005 (bytesAt (slot t farm) seat input)
+  pub reads : requestIn (payloadOf (bytesAt (slot t farm) seat input)) ≡ q
   pub waits : decide (slotSheet s farm) (slot t farm .farm .rows) seat q ≡ Ask check
 
 -- ---- along a history, from a table on
