@@ -47,6 +47,7 @@ pub mod HandOn
 pub mod HandOnElse
 pub mod HandOnTable
 pub mod HandOnHistory
+pub mod CodeHistory
 pub mod Readable
 pub mod ShutOut
 pub mod MeterBalance

@@ -19,7 +19,7 @@ use Rattle.model.specs.Line.{settle}
 use Rattle.model.specs.Move.{Own, Held, move, tickMove}
 use Rattle.model.specs.Table.{Table, slot, goodTable, Call, bytesFrom, Lent, Did, did, itemsBy, step, startStep, numberOf, itemsOf, tableOf}
 use Rattle.model.specs.History.{Made, fresh, stepOf, run, callsOf, hasOf}
-use Rattle.model.specs.Words.{MustWait, ReadableWaits, Answered, cutIn, ticksIn, entriesIn}
+use Rattle.model.specs.Words.{MustWait, ReadableWaits, Answered, Decided, cutIn, ticksIn, entriesIn}
 use Rattle.model.specs.HandsOn.{HandedOn, handOns}
 use Rattle.model.specs.Meter.{notesOf, MetersAre, Balanced}
 use Rattle.model.specs.Rule.{Good}
@@ -35,6 +35,7 @@ use Rattle.model.proofs.HandOnHistory as handed
 use Rattle.model.proofs.HandOnTable.{takesBytes, other-calls-hand-nothing-on}
 use Rattle.model.proofs.Bound as bound
 use Rattle.model.proofs.Readable as readable
+use Rattle.model.proofs.CodeHistory.{answered-decided}
 use Rattle.model.proofs.CodeMoment.{Each, Told}
 use Rattle.model.proofs.CodeTold as told
 use Rattle.model.proofs.Neighbour as neighbours
@@ -90,15 +91,17 @@ nothing-else-hands-on = other-calls-hand-nothing-on
 -- by the accepted clock tick number 50 times k after it joined, unless its own connection or its farm's link is lost first. Nobody's traffic
 -- can delay it further."
 
--- the request is told by its bytes: a whole 0005 that the header rules pass, in the row's 2,048 bytes of room
+-- The request is told by its bytes: a whole 0005 that the header rules pass, in the row's 2,048 bytes of room. `Decided`: some call among
+-- those that follow sends it a 0006 for its address, with the code that the rules give in that call.
 pub readable-answered-in-time : (s : List ℕ) (rooms : List (List (List ℕ))) (past : List Made) (m : Made) (row g seat k : ℕ) (q : Request)
     → mostPayload ≤ length (getD (getD rooms g []) seat [])
     → ReadableWaits s (run s (fresh rooms) past) m row g seat q → k ≡ length (slot (run s (fresh rooms) past) g .farm .line) + 1
     → let joined = tableOf (run s (fresh rooms) past) (stepOf s (run s (fresh rooms) past) m) in
-    (ms : List Made) → cutIn row g s joined ms ≡ false → checkLimit * k ≤ ticksIn s joined ms → Answered row (q .address) (entriesIn s joined ms)
-readable-answered-in-time = readable.readable-is-answered
+    (ms : List Made) → cutIn row g s joined ms ≡ false → checkLimit * k ≤ ticksIn s joined ms → Decided s row (q .address) joined ms
+readable-answered-in-time s rooms past m row g seat k q room w e ms c h =
+    answered-decided s row (q .address) _ ms (readable.readable-is-answered s rooms past m row g seat k q room w e ms c h)
 
--- the same of a request that the call reads, whatever room it has
+-- of a request that the call reads, whatever room it has: a 0006 is among the entries
 pub answered-in-time : (s : List ℕ) (rooms : List (List (List ℕ))) (past : List Made) (m : Made) (row g seat k : ℕ) (q : Request)
     → MustWait s (run s (fresh rooms) past) m row g seat q → k ≡ length (slot (run s (fresh rooms) past) g .farm .line) + 1
     → let joined = tableOf (run s (fresh rooms) past) (stepOf s (run s (fresh rooms) past) m) in
