@@ -52,7 +52,8 @@ closingsBy own f Pending = []
 closingsBy own f (Answer code) = []
 closingsBy own f (RunOut check) = closedWhere own (isSilent check (f .marks)) f .items
 
-said : (own : FarmSheet) (head address code : ℕ) (f : Farm)
+-- an answer begins with its 0006
+pub said : (own : FarmSheet) (head address code : ℕ) (f : Farm)
     → (rest : List Item) × (answered own head address code f .items ≡ says own head (Activation address (own .entity) code) ∷ rest)
 unfolding answered andThen
 said own head address code f =

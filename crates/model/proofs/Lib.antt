@@ -49,6 +49,7 @@ pub mod HandOnTable
 pub mod HandOnHistory
 pub mod CodeHistory
 pub mod Readable
+pub mod AtOnce
 pub mod ShutOut
 pub mod MeterBalance
 pub mod MeterDoings

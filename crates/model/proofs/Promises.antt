@@ -7,6 +7,7 @@ use mathlib.Core.Bool.{true, false}
 use mathlib.Core.List.{List, [], _∷_, _++_, map}
 use lib.ListN.{length, getD}
 use Rattle.kinds.specs.declared.Request.{Request}
+use Rattle.kinds.specs.declared.Reply.the-variants.{Activation}
 use Rattle.sheet.specs.declared.rows.Owner.the-variants.{Seat}
 use Rattle.sheet.specs.Sheet.{farmCount, farmNo}
 use Rattle.sheet.specs.Rules.{GoodSheet}
@@ -14,12 +15,12 @@ use Rattle.sheet.specs.Rows.{ownerOf}
 use Rattle.wire.specs.Header.{mostPayload}
 use Rattle.model.specs.FarmSheet.{FarmSheet, slotSheet}
 use Rattle.model.specs.Row.{checkLimit, rowAt, activeAs}
-use Rattle.model.specs.Farm.{Farm, quietly}
+use Rattle.model.specs.Farm.{Farm, quietly, says}
 use Rattle.model.specs.Line.{settle}
 use Rattle.model.specs.Move.{Own, Held, move, tickMove}
 use Rattle.model.specs.Table.{Table, slot, goodTable, Call, bytesFrom, Lent, Did, did, itemsBy, step, startStep, numberOf, itemsOf, tableOf}
 use Rattle.model.specs.History.{Made, fresh, stepOf, run, callsOf, hasOf}
-use Rattle.model.specs.Words.{MustWait, ReadableWaits, Answered, Decided, cutIn, ticksIn, entriesIn}
+use Rattle.model.specs.Words.{MustWait, ReadableWaits, ReadableNow, Begins, Answered, Decided, cutIn, ticksIn, entriesIn}
 use Rattle.model.specs.HandsOn.{HandedOn, handOns}
 use Rattle.model.specs.Meter.{notesOf, MetersAre, Balanced}
 use Rattle.model.specs.Rule.{Good}
@@ -35,6 +36,7 @@ use Rattle.model.proofs.HandOnHistory as handed
 use Rattle.model.proofs.HandOnTable.{takesBytes, other-calls-hand-nothing-on}
 use Rattle.model.proofs.Bound as bound
 use Rattle.model.proofs.Readable as readable
+use Rattle.model.proofs.AtOnce as atOnce
 use Rattle.model.proofs.CodeHistory.{answered-decided}
 use Rattle.model.proofs.CodeMoment.{Each, Told}
 use Rattle.model.proofs.CodeTold as told
@@ -86,6 +88,15 @@ handed-on-exactly = handed.history-hands-on
 -- and no call but bytes hands anything on
 pub nothing-else-hands-on : (s : List ℕ) (l : Lent) (t : Table) (c : Call) → takesBytes c ≡ false → handOns (itemsOf (step s l t c)) ≡ 0
 nothing-else-hands-on = other-calls-hand-nothing-on
+
+-- ---- DEMAND 2, of activation codes: a readable request that needs no check is answered by the call that finishes it, with the code that the
+-- rules give; its entries begin with that 0006. (One that needs a check is demand 3's.)
+
+pub answered-at-once : (s : List ℕ) (rooms : List (List (List ℕ))) (ms : List Made) (l : Lent) (r f seat : ℕ) (input : List ℕ) (q : Request) (code : ℕ)
+    (d : Did) → mostPayload ≤ length (getD (getD rooms f []) seat []) → ownerOf s r ≡ Seat (farmNo f) seat
+    → step s l (run s (fresh rooms) ms) (bytesFrom r input) ≡ did d → ReadableNow (slotSheet s f) (slot (run s (fresh rooms) ms) f) seat input q code
+    → Begins (says (slotSheet s f) seat (Activation (q .address) (slotSheet s f .entity) code)) (d .items)
+answered-at-once = atOnce.history-at-once
 
 -- ---- DEMAND 3: "a readable activation request that must wait for an alive check, and joins its farm's line at place k, has its final answer
 -- by the accepted clock tick number 50 times k after it joined, unless its own connection or its farm's link is lost first. Nobody's traffic

@@ -76,6 +76,17 @@ pub record ReadableWaits (s : List ℕ) (t : Table) (m : Made) (row farm seat : 
   pub reads : requestIn (payloadOf (bytesAt (slot t farm) seat input)) ≡ q
   pub waits : decide (slotSheet s farm) (slot t farm .farm .rows) seat q ≡ Ask check
 
+-- a readable request that has its answer at once: the rules, looking at its farm when the bytes are in, need no check
+pub record ReadableNow (own : FarmSheet) (h : Held) (seat : ℕ) (input : List ℕ) (q : Request) (code : ℕ) : Type 0 where
+  pub readable : WholeOf 0x0005 (bytesAt h seat input)
+  pub reads : requestIn (payloadOf (bytesAt h seat input)) ≡ q
+  pub decided : decide own (heard seat (takenOf h seat input) (h .farm) .rows) seat q ≡ Now code
+
+-- the entries begin with this one
+pub record Begins (it : Item) (items : List Item) : Type 0 where
+  pub rest : List Item
+  pub begins : items ≡ it ∷ rest
+
 -- ---- along a history, from a table on
 
 abbrev pub isTick : Call → Bool
