@@ -1,4 +1,4 @@
--- DEMAND 3's BOUND BY TICKS, over histories.
+-- DEMAND 3's BOUND BY TICKS, over histories: a request that joins at place k is answered by accepted tick 50 * k.
 -- Assumes nothing.
 use Prim.Native.Nat.{ℕ, zero, suc, _+_, _*_, _≤_, _<_}
 use mathlib.Core.Path.{_≡_, refl, sym, ap, subst, _∙_}
@@ -31,13 +31,13 @@ use Rattle.model.specs.History.{Made, fresh, stepOf, run}
 use Rattle.model.specs.Words.{Stands, Answered, isDone, takenOf, MustWait, acceptedTick, ticksIn, cuts, cutIn, entriesIn}
 use Rattle.sheet.proofs.TestLaws.{good-says}
 use Rattle.model.proofs.Rows.{row-free}
-use Rattle.model.proofs.Keeps.{slot-ok}
+use Rattle.model.proofs.RuleKept.{slot-ok}
 use Rattle.model.proofs.TableTest.{table-says}
-use Rattle.model.proofs.Rank.{Within, now, later, bound, count}
+use Rattle.model.proofs.DueRank.{Within, now, later, bound, count}
 use Rattle.model.proofs.Due.{waits, more-left, more-right, Due}
 use Rattle.model.proofs.DueCalls.{never-now}
 use Rattle.model.proofs.DueTable.{step-case, slot-in, slot-own, inside, EndsBy, answer, cut, next, tickOf, DueIn, step-law}
-use Rattle.model.proofs.Join.{decide-ask, joins-last, joins-due}
+use Rattle.model.proofs.DueJoin.{decide-ask, joins-last, joins-due}
 
 -- ---- whoever is due in n ticks is answered in every history with n accepted ticks and no cut
 

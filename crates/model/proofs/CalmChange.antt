@@ -22,7 +22,7 @@ use Rattle.model.specs.FarmSheet.{FarmSheet}
 use Rattle.model.specs.Row.{freeRow, waitingRow, activeRow, rowAt, isWaitingState, isWaiting, isActive, activeAs, wanted, older, atLimitState, atLimit}
 use Rattle.model.specs.Stream.{Taken}
 use Rattle.model.specs.Farm.{Farm, withRow, withLine, withMarks, Done, quietly, closed, closedWhere}
-use Rattle.model.specs.Line.{isAsked, isMarked, headVerdict, isEmpty, started, advanced, joined, without, leftBy, left, marked}
+use Rattle.model.specs.Line.{isAsked, isMarked, headVerdict, isEmpty, started, advanced, joined, without, leftBy, left, marked, answersCheck}
 use Rattle.model.specs.Bytes.{heardRow, heard}
 use Rattle.model.specs.Move.{clockRun, aged}
 use Rattle.model.specs.Rule.{HeadKeeps}
@@ -120,7 +120,7 @@ module _ {own : FarmSheet} {f : Farm} (k : Ready own f) where
   pub marked-asked : (seat address head : ℕ) → SameCheck own f (marked own seat address f) head
   unfolding marked
   marked-asked seat address head =
-      pick-case (λ (g : Farm). SameCheck own f g head) (both (activeAs address (rowAt (f .rows) seat)) (isAsked own f seat)) _ _
+      pick-case (λ (g : Farm). SameCheck own f g head) (answersCheck own seat address f) _ _
       (λ t. record { check = refl; asked = λ i. refl }) (λ t. record { check = refl; asked = λ i. refl })
 
   -- ---- what is handed to settling, change by change
@@ -169,7 +169,7 @@ module _ {own : FarmSheet} {f : Farm} (k : Ready own f) where
   pub marked-handed : (seat address : ℕ) → Handed own f (marked own seat address f)
   unfolding marked
   marked-handed seat address =
-      pick-case (λ (g : Farm). Handed own f g) (both (activeAs address (rowAt (f .rows) seat)) (isAsked own f seat)) _ _
+      pick-case (λ (g : Farm). Handed own f g) (answersCheck own seat address f) _ _
       (λ t. line-stays k (withMarks f (set (f .marks) seat true)) refl (λ e. refl)
       (λ i m. at i (both-right (activeAs address (rowAt (f .rows) seat)) (isAsked own f seat) t) m)
       (λ head rest e p. record { check = refl; asked = λ i. refl })) (λ t. kept-handed)

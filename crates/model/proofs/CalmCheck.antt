@@ -25,7 +25,7 @@ use Rattle.model.specs.Farm.{Farm, seatCount}
 use Rattle.model.specs.Line.{askedBy, isAsked, isMarked, isSilent, allAnswered, verdictBy, headVerdict, settle}
 use Rattle.model.specs.Rule.{times, HeadKeeps, Good}
 use Rattle.model.proofs.Rows.{row-set}
-use Rattle.model.proofs.Split.{Calm, calm-of}
+use Rattle.model.proofs.RuleParts.{Calm, calm-of}
 use Rattle.model.proofs.Settling.{headNeed, asksRow, asked-is, asked-none, Anew, Fits, anew-fits, Runs, runs, pending-runs, settle-fits}
 use Rattle.model.proofs.CalmRows.{NoMore, alike-count, SameAsked, same-asked, fewer-same}
 

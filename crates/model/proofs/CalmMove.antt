@@ -36,7 +36,7 @@ use Rattle.model.specs.Move.{Own, connect, bytes, peerClosed, linkLost, 
 use Rattle.model.specs.Table.{heldBy}
 use Rattle.model.specs.Rule.{Good}
 use Rattle.model.proofs.Cases.{pick-case, unless-case}
-use Rattle.model.proofs.Split.{Calm, calm-of}
+use Rattle.model.proofs.RuleParts.{Calm, calm-of}
 use Rattle.model.proofs.Settling.{calm-none, anew-cleared, Stands, stands, first-stands}
 use Rattle.model.proofs.CalmCheck.{Ready, ready-of, SameState, set-same, heard-same, ready-same, Stays, same-then, Handed, handed-calm, handed-asked}
 use Rattle.model.proofs.CalmChange.{heard-asked, heard-ready, kept-handed, closed-handed, again-handed, opened-handed, joined-handed, marked-handed, left-handed, ticking, ticking-asked, ticking-handed}

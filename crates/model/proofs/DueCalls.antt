@@ -31,7 +31,7 @@ use Rattle.kinds.specs.Clock.{checkLimit, mostTicks, stepped, clockOf}
 use Rattle.model.specs.Row.{rowAt, freeRow, waitingRow, activeAs, isOpen, isFreeState, isFree, older, olderState, atLimitState, atLimit, freshRow}
 use Rattle.model.specs.Stream.{Event, inputEnded, wrong, finished, skipped, Taken}
 use Rattle.model.specs.Farm.{Farm, Done, does, quietly, andThen, withRow, closed, closedWhere}
-use Rattle.model.specs.Line.{accepted, decide, answered, joined, isEmpty, without, leftBy, left, isAsked, marked, settle}
+use Rattle.model.specs.Line.{accepted, decide, answered, joined, isEmpty, without, leftBy, left, marked, settle, answersCheck}
 use Rattle.model.specs.Bytes.{decidedBy, requested, toTarget, diagnosed, messaged, faulted, eventDone, heardRow, heard, takenBy, bytesDone}
 use Rattle.model.specs.Move.{Own, connect, bytes, peerClosed, linkLost, datagram, controller, Held, Move, connectedAt, connects, bytesBy, peerGone, clockRun, aged, ticked, datagramMove, toTester, controllerMove, isTarget, mostUser, move, tickMove}
 use Rattle.model.specs.Table.{heldBy, itemsBy}
@@ -107,7 +107,7 @@ module _ (own : FarmSheet) (seat i : ℕ) (ne : seat ≡ i → ⊥) (f : Farm) w
   marked-still : (address : ℕ) → Still (quietly (marked own i address f))
   unfolding marked
   marked-still address =
-      pick-case (λ (g : Farm). Alike seat f g) (both (activeAs address (rowAt (f .rows) i)) (isAsked own f i)) _ _
+      pick-case (λ (g : Farm). Alike seat f g) (answersCheck own i address f) _ _
       (λ _. record { line = refl; clock = refl; row = refl }) (λ _. same)
 
   heard-still : (t : Taken) → Alike seat f (heard i t f)

@@ -27,7 +27,7 @@ use Rattle.model.specs.Table.{Table, slot, noHeld, goodTable, Call, conn
 use Rattle.model.specs.History.{Made, stepOf}
 use Rattle.model.specs.Words.{Stands, first, Answered, isDone, isTick, acceptedTick, isLoss, cuts}
 use Rattle.model.proofs.Cases.{pick-case, unless-case, split}
-use Rattle.model.proofs.Rank.{Kept, stops, goesOn}
+use Rattle.model.proofs.DueRank.{Kept, stops, goesOn}
 use Rattle.model.proofs.Due.{After, gone, waits, more-left, more-right, Due}
 use Rattle.model.proofs.DueCalls.{isCut, Moved, own-moved, tick-moved, never-now}
 

@@ -148,7 +148,7 @@ module _ (own : FarmSheet) (seat : ℕ) (f : Farm) (t : Taken) where
   welcome-is : (p q : List ℕ) → p ≡ q → Welcome own seat (endsIn q) (rowAt (f .rows) seat) → Welcome own seat (endsIn p) (rowAt (heard seat t f .rows) seat)
   welcome-is p q e w = rw e (heard-row (endsIn q .source) seat t f ∙ w .0, w .1)
 
-  module _ (m : List ℕ) (ends : Ends m (t .event) (t .stream)) where
+  module _ (m : List ℕ) (ends : Ends 0x8001 m (t .event) (t .stream)) where
     bytes-only : 1 ≤ handOns (bytesDone own seat t f .items) → Reaches own (rowAt (f .rows) seat) m
     unfolding bytesDone andThen
     bytes-only h =
@@ -208,6 +208,6 @@ handed-on own h seat input g good room e =
     long : payloadBy (t .event) (t .stream .room) ≡ g .long
     long = ap (λ (x : Given). x .long) (gave-same took)
 
-    ends : Ends (bytesAt h seat input) (t .event) (t .stream)
-    ends = stream-ends (rowAt (h .farm .rows) seat .place) (rowAt (h .farm .rows) seat .head) (getD (h .rooms) seat []) input (good .tidy seat .eight) room
+    ends : Ends 0x8001 (bytesAt h seat input) (t .event) (t .stream)
+    ends = stream-ends 0x8001 refl (rowAt (h .farm .rows) seat .place) (rowAt (h .farm .rows) seat .head) (getD (h .rooms) seat []) input (good .tidy seat .eight) room
         (good .possible seat)

@@ -28,7 +28,7 @@ use Rattle.model.specs.Table.{Table, slot, Call, bytesFrom, Lent, Whose,
 use Rattle.model.specs.History.{Made, fresh, stepOf, run}
 use Rattle.model.specs.HandsOn.{HandedOn}
 use Rattle.model.proofs.Cases.{pick-case, unless-case}
-use Rattle.model.proofs.Keeps.{slot-good, fresh-good, run-good}
+use Rattle.model.proofs.RuleKept.{slot-good, fresh-good, run-good}
 use Rattle.model.proofs.HandOnTable.{step-case, row-handed-on}
 
 -- ---- storing keeps a room's length
@@ -150,6 +150,11 @@ fresh-rooms [] f = refl
 fresh-rooms (r ∷ rooms) zero = refl
 fresh-rooms (r ∷ rooms) (suc f) = fresh-rooms rooms f
 
+pub room-stays : (s : List ℕ) (rooms : List (List (List ℕ))) (ms : List Made) (f seat n : ℕ) → n ≤ length (getD (getD rooms f []) seat [])
+    → n ≤ length (getD (slot (run s (fresh rooms) ms) f .rooms) seat [])
+room-stays s rooms ms f seat n room =
+    omega (arith, room, run-in s f seat (fresh rooms) ms, ap (λ x. length (getD x seat [])) (fresh-rooms rooms f))
+
 -- DEMAND 2, LAST SENTENCE, IN A HISTORY. From a fresh table over an assembling buffer in which the row has its 2,048 bytes, after any calls:
 -- an accepted bytes call on a row of the sheet hands a payload on exactly where the bytes that the row had in hand, and the input behind them,
 -- begin with a whole diagnostic message that the header rules pass, whose sender is active on that row, and whose controller is known,
@@ -161,4 +166,4 @@ pub history-hands-on : (s : List ℕ) (rooms : List (List (List ℕ))) (ms : Lis
 history-hands-on s rooms ms l r f seat input d room owner e =
     row-handed-on s l (run s (fresh rooms) ms) r f seat input d owner
     (slot-good s 0 f (run s (fresh rooms) ms) f (omega arith) (run-good s (fresh rooms) ms (fresh-good s 0 rooms)))
-    (omega (arith, room, run-in s f seat (fresh rooms) ms, ap (λ x. length (getD x seat [])) (fresh-rooms rooms f))) e
+    (room-stays s rooms ms f seat mostPayload room) e

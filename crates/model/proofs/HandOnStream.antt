@@ -25,14 +25,14 @@ use Rattle.wire.specs.Types.{types, tcp, lengthFits}
 use Rattle.wire.specs.Header.{headerSize, headerAt, mostPayload, verdictOf}
 use Rattle.model.specs.Stream.{Stream, streamOf, Event, inputEnded, finished, storedIn, isStored, judged, feed, Taken, takesBy, takes}
 use Rattle.model.specs.Rule.{PossibleAt}
-use Rattle.model.specs.HandsOn.{inHandBytes, Whole, payloadOf}
+use Rattle.model.specs.HandsOn.{inHandBytes, WholeOf, payloadOf}
 use Rattle.model.proofs.Cases.{split}
 
--- the call finishes a diagnostic message exactly where one is whole, and then the payload stands at the front of the row's room
-pub record Ends (m : List ℕ) (e : Event) (s : Stream) : Type 0 where
-  pub finishes : Whole m → e ≡ finished 0x8001 (headerAt m 0 .length)
-  pub stores : Whole m → take (headerAt m 0 .length) (s .room) ≡ payloadOf m
-  pub only : (size : ℕ) → e ≡ finished 0x8001 size → Whole m
+-- the call finishes a message of this type exactly where one is whole, and then the payload stands at the front of the row's room
+pub record Ends (k : ℕ) (m : List ℕ) (e : Event) (s : Stream) : Type 0 where
+  pub finishes : WholeOf k m → e ≡ finished k (headerAt m 0 .length)
+  pub stores : WholeOf k m → take (headerAt m 0 .length) (s .room) ≡ payloadOf m
+  pub only : (size : ℕ) → e ≡ finished k size → WholeOf k m
 
 -- ---- a header that passes announces at least one byte
 
@@ -154,31 +154,31 @@ header-front hd rest l =
     byte k h = List·getD-append hd rest 0 k (omega arith)
 
 -- no message is whole where the header is judged wrong
-wrong-not : (m : List ℕ) (fault : Fault) → verdictOf (headerAt m 0) ≡ Wrong fault → Whole m → ⊥
-wrong-not m fault e w = let p : verdictOf (headerAt m 0) ≡ Passes = w .passes in let z : _≡_ {A = ℕ} 0 1 = cc in omega arith
+wrong-not : (k : ℕ) (m : List ℕ) (fault : Fault) → verdictOf (headerAt m 0) ≡ Wrong fault → WholeOf k m → ⊥
+wrong-not k m fault e w = let p : verdictOf (headerAt m 0) ≡ Passes = w .passes in let z : _≡_ {A = ℕ} 0 1 = cc in omega arith
 
 -- an end of the call that is no finished message, where none is whole
-no-message : (m : List ℕ) (e : Event) (s : Stream) → (Whole m → ⊥) → ((kind size : ℕ) → e ≡ finished kind size → ⊥) → Ends m e s
-no-message m e s n k = record { finishes = λ w. absurd (n w); stores = λ w. absurd (n w); only = λ size q. absurd (k 0x8001 size q) }
+no-message : (k : ℕ) (m : List ℕ) (e : Event) (s : Stream) → (WholeOf k m → ⊥) → ((kind size : ℕ) → e ≡ finished kind size → ⊥) → Ends k m e s
+no-message k m e s n u = record { finishes = λ w. absurd (n w); stores = λ w. absurd (n w); only = λ size q. absurd (u k size q) }
 
 -- while a payload is read: m is the header, the part in hand, and the input
-module _ (m hd room input : List ℕ) (n : ℕ) (front : headerAt m 0 ≡ headerAt hd 0) (long : length m ≡ headerSize + (n + length input))
+module _ (k : ℕ) (stored : isStored k ≡ true) (m hd room input : List ℕ) (n : ℕ) (front : headerAt m 0 ≡ headerAt hd 0) (long : length m ≡ headerSize + (n + length input))
     (behind : drop headerSize m ≡ take n room ++ input) (p : verdictOf (headerAt hd 0) ≡ Passes) (h : n < headerAt hd 0 .length) (r : mostPayload ≤ length room) where
-  read-finishes : Whole m → takes (streamOf (Reading n) hd room) input .event ≡ finished 0x8001 (headerAt m 0 .length)
+  read-finishes : WholeOf k m → takes (streamOf (Reading n) hd room) input .event ≡ finished k (headerAt m 0 .length)
   read-finishes w =
       let size : headerAt m 0 .length ≡ headerAt hd 0 .length = ap (λ (x : Head). x .length) front in
-      let kind : headerAt hd 0 .kind ≡ 0x8001 = ap (λ (x : Head). x .kind) (sym front) ∙ w .diagnostic in
+      let kind : headerAt hd 0 .kind ≡ k = ap (λ (x : Head). x .kind) (sym front) ∙ w .isKind in
       let all : ltb (n + length input) (headerAt hd 0 .length) ≡ false = le-ltb (n + length input) (headerAt hd 0 .length) (omega (arith, w .whole)) in
       read-event hd n room input h ∙ rw (all, kind, size) refl
 
-  read-room : Whole m → take (headerAt m 0 .length) (takes (streamOf (Reading n) hd room) input .stream .room) ≡ payloadOf m
+  read-room : WholeOf k m → take (headerAt m 0 .length) (takes (streamOf (Reading n) hd room) input .stream .room) ≡ payloadOf m
   read-room w =
       let size : headerAt m 0 .length ≡ headerAt hd 0 .length = ap (λ (x : Head). x .length) front in
-      let kind : headerAt hd 0 .kind ≡ 0x8001 = ap (λ (x : Head). x .kind) (sym front) ∙ w .diagnostic in
-      let kept : isStored (headerAt hd 0 .kind) ≡ true = rw kind refl in
+      let kind : headerAt hd 0 .kind ≡ k = ap (λ (x : Head). x .kind) (sym front) ∙ w .isKind in
+      let kept : isStored (headerAt hd 0 .kind) ≡ true = rw kind stored in
       rw (size, behind) (read-stores hd n room input kept h (omega (arith, passes-all (headerAt hd 0) p .short)) (omega (arith, w .whole)))
 
-  read-only : (size : ℕ) → takes (streamOf (Reading n) hd room) input .event ≡ finished 0x8001 size → Whole m
+  read-only : (size : ℕ) → takes (streamOf (Reading n) hd room) input .event ≡ finished k size → WholeOf k m
   read-only size e =
       let same : headerAt m 0 .length ≡ headerAt hd 0 .length = ap (λ (x : Head). x .length) front in
       split (ltb (n + length input) (headerAt hd 0 .length))
@@ -188,14 +188,14 @@ module _ (m hd room input : List ℕ) (n : ℕ) (front : headerAt m 0 ≡ header
       absurd (omega arith))
       (λ t.
       let ev : takes (streamOf (Reading n) hd room) input .event ≡ finished (headerAt hd 0 .kind) (headerAt hd 0 .length) = read-event hd n room input h ∙ rw t refl in
-      let kind : headerAt hd 0 .kind ≡ 0x8001 = cc in
+      let kind : headerAt hd 0 .kind ≡ k = cc in
       record {
         whole = omega (arith, ltb-false);
         passes = ap verdictOf front ∙ p;
-        diagnostic = ap (λ (x : Head). x .kind) front ∙ kind;
+        isKind = ap (λ (x : Head). x .kind) front ∙ kind;
       })
 
-  read-ends : Ends m (takes (streamOf (Reading n) hd room) input .event) (takes (streamOf (Reading n) hd room) input .stream)
+  read-ends : Ends k m (takes (streamOf (Reading n) hd room) input .event) (takes (streamOf (Reading n) hd room) input .stream)
   read-ends = record { finishes = read-finishes; stores = read-room; only = read-only }
 
 -- what stands behind the eight bytes of a header
@@ -203,37 +203,37 @@ header-behind : (hd rest : List ℕ) → length hd ≡ headerSize → drop heade
 header-behind hd rest l = drop-at hd rest headerSize l
 
 -- when the eight bytes are in
-after-ends : (hd room rest : List ℕ) (v : Verdict) → length hd ≡ headerSize → mostPayload ≤ length room → verdictOf (headerAt hd 0) ≡ v
-    → Ends (hd ++ rest) (takesBy (judged v hd room) (λ t. takes t rest) .event) (takesBy (judged v hd room) (λ t. takes t rest) .stream)
-after-ends hd room rest Passes l r e =
-    let both : Ends (hd ++ rest) (takes (streamOf (Reading 0) hd room) rest .event) (takes (streamOf (Reading 0) hd room) rest .stream) =
-    read-ends (hd ++ rest) hd room rest 0 (header-front hd rest l) (omega (arith, length-append hd rest)) (header-behind hd rest l) e
+after-ends : (k : ℕ) → isStored k ≡ true → (hd room rest : List ℕ) (v : Verdict) → length hd ≡ headerSize → mostPayload ≤ length room → verdictOf (headerAt hd 0) ≡ v
+    → Ends k (hd ++ rest) (takesBy (judged v hd room) (λ t. takes t rest) .event) (takesBy (judged v hd room) (λ t. takes t rest) .stream)
+after-ends k st hd room rest Passes l r e =
+    let both : Ends k (hd ++ rest) (takes (streamOf (Reading 0) hd room) rest .event) (takes (streamOf (Reading 0) hd room) rest .stream) =
+    read-ends k st (hd ++ rest) hd room rest 0 (header-front hd rest l) (omega (arith, length-append hd rest)) (header-behind hd rest l) e
     (passes-some (headerAt hd 0) e) r in
     both
-after-ends hd room rest (Wrong fault) l r e =
-    no-message (hd ++ rest) _ _ (wrong-not (hd ++ rest) fault (ap verdictOf (header-front hd rest l) ∙ e))
+after-ends k st hd room rest (Wrong fault) l r e =
+    no-message k (hd ++ rest) _ _ (wrong-not k (hd ++ rest) fault (ap verdictOf (header-front hd rest l) ∙ e))
     (λ kind size q. let z : _≡_ {A = ℕ} 0 1 = cc in omega arith)
 
 -- what a call finishes is the message that its row's bytes in hand and its input make
-pub stream-ends : (place : Place) (head room input : List ℕ) → length head ≡ headerSize → mostPayload ≤ length room → PossibleAt place head
-    → Ends (inHandBytes place head room ++ input) (takes (streamOf place head room) input .event) (takes (streamOf place head room) input .stream)
-stream-ends (Header n) head room input l r h =
+pub stream-ends : (k : ℕ) → isStored k ≡ true → (place : Place) (head room input : List ℕ) → length head ≡ headerSize → mostPayload ≤ length room → PossibleAt place head
+    → Ends k (inHandBytes place head room ++ input) (takes (streamOf place head room) input .event) (takes (streamOf place head room) input .stream)
+stream-ends k st (Header n) head room input l r h =
     split (leb headerSize (n + length input))
     (λ t.
-    header-long (Ends (take n head ++ input)) n head room input h l (leb-true _ _ t)
-    (λ hd rest q s. rw (sym s) (after-ends hd room rest (verdictOf (headerAt hd 0)) q r refl)))
+    header-long (Ends k (take n head ++ input)) n head room input h l (leb-true _ _ t)
+    (λ hd rest q s. rw (sym s) (after-ends k st hd room rest (verdictOf (headerAt hd 0)) q r refl)))
     (λ t.
     let ev : takes (streamOf (Header n) head room) input .event ≡ inputEnded = header-short n head room input (leb-false _ _ t) in
-    no-message (take n head ++ input) _ _
+    no-message k (take n head ++ input) _ _
     (λ w. omega (arith, w .whole, length-append (take n head) input, length-take-le n head (omega arith), leb-false))
     (λ kind size q. let z : _≡_ {A = ℕ} 0 1 = cc in omega arith))
-stream-ends (Reading n) head room input l r h =
+stream-ends k st (Reading n) head room input l r h =
     rw append-assoc
-    (read-ends (head ++ (take n room ++ input)) head room input n (header-front head (take n room ++ input) l)
+    (read-ends k st (head ++ (take n room ++ input)) head room input n (header-front head (take n room ++ input) l)
     (omega (arith, length-append head (take n room ++ input), length-append (take n room) input, length-take-le n room (omega (arith, passes-all (headerAt head 0) (h .1) .short))))
     (header-behind head (take n room ++ input) l) (h .1) (h .0) r)
-stream-ends (Skipping n) head room input l r h =
-    no-message (head ++ input) _ _
+stream-ends k st (Skipping n) head room input l r h =
+    no-message k (head ++ input) _ _
     (λ w. let q : verdictOf (headerAt head 0) ≡ Passes = ap verdictOf (sym (header-front head input l)) ∙ w .passes in judgedWrong q (h .1))
     (skip-event n head room input)
   where

@@ -1,4 +1,4 @@
--- The meter equation over histories.
+-- The meters over histories: they are what the day's notes give, and the meter equation holds.
 -- Assumes nothing.
 use Prim.Native.Nat.{ℕ, zero, suc, _+_, _≤_, _<_}
 use mathlib.Core.Path.{_≡_, refl, sym, ap, subst, _∙_}
@@ -19,12 +19,12 @@ use Rattle.model.specs.Table.{Table, noHeld, slot, heldBy, slotTick, tab
 use Rattle.model.specs.History.{Made, fresh, stepOf, run}
 use Rattle.model.specs.Meter.{notesOf, saidBy, Log, noLog, notedBy, logFrom, finishedUpTo, total, takenBy, takenOf, finishedOf, lostOf, logOf, hands, Differs, Balanced, MetersAre}
 use Rattle.model.proofs.Cases.{pick-case, split}
-use Rattle.model.proofs.MeterFarmSlot.{step-slot, step-length}
-use Rattle.model.proofs.MeterFarmLog.{Tied, Logged}
-use Rattle.model.proofs.MeterFarmSums.{exact}
-use Rattle.model.proofs.MeterFarmNone.{free-rows, slot-none, run-length, none-sum, none-sums}
-use Rattle.model.proofs.MeterFarmTable.{step-comes}
-use Rattle.model.proofs.MeterFarmEven.{move-differs, tick-differs}
+use Rattle.model.proofs.MeterSlot.{step-slot, step-length}
+use Rattle.model.proofs.MeterLog.{Tied, Logged}
+use Rattle.model.proofs.MeterSums.{exact}
+use Rattle.model.proofs.MeterNone.{free-rows, slot-none, run-length, none-sum, none-sums}
+use Rattle.model.proofs.MeterTable.{step-comes}
+use Rattle.model.proofs.MeterEven.{move-differs, tick-differs}
 
 -- ---- the difference over a history
 

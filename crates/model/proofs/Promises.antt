@@ -1,12 +1,13 @@
--- THE PROMISES. What the asker demands (2 and 3), as theorems over histories: calls from a fresh table, under one farm sheet, with no second
+-- THE PROMISES. What the asker demands, of the rules, as theorems over histories: calls from a fresh table, under one farm sheet, with no second
 -- start. Each statement stands here whole, under the sentence that it is; the proofs are in the files named.
 -- Assumes nothing.
 use Prim.Native.Nat.{ℕ, _+_, _*_, _≤_, _<_}
 use mathlib.Core.Path.{_≡_}
 use mathlib.Core.Bool.{true, false}
-use mathlib.Core.List.{List, [], _∷_, _++_}
+use mathlib.Core.List.{List, [], _∷_, _++_, map}
 use lib.ListN.{length, getD}
 use Rattle.kinds.specs.declared.Request.{Request}
+use Rattle.kinds.specs.declared.Reply.the-variants.{Activation}
 use Rattle.sheet.specs.declared.rows.Owner.the-variants.{Seat}
 use Rattle.sheet.specs.Sheet.{farmCount, farmNo}
 use Rattle.sheet.specs.Rules.{GoodSheet}
@@ -15,34 +16,51 @@ use Rattle.wire.specs.Header.{mostPayload}
 use Rattle.model.specs.FarmSheet.{FarmSheet, slotSheet}
 use Rattle.kinds.specs.Clock.{checkLimit}
 use Rattle.model.specs.Row.{rowAt, activeAs}
-use Rattle.model.specs.Farm.{Farm, quietly}
+use Rattle.model.specs.Farm.{Farm, quietly, says}
 use Rattle.model.specs.Line.{settle}
 use Rattle.model.specs.Move.{Own, Held, move, tickMove}
-use Rattle.model.specs.Table.{Table, slot, goodTable, Call, bytesFrom, Lent, Did, did, itemsBy, step, tableOf}
+use Rattle.model.specs.Table.{Table, slot, goodTable, Call, bytesFrom, Lent, Did, did, itemsBy, step, startStep, numberOf, itemsOf, tableOf}
 use Rattle.model.specs.History.{Made, fresh, stepOf, run, callsOf, hasOf}
-use Rattle.model.specs.Words.{MustWait, Answered, cutIn, ticksIn, entriesIn}
-use Rattle.model.specs.HandsOn.{HandedOn}
+use Rattle.model.specs.Words.{MustWait, ReadableWaits, ReadableNow, Begins, Answered, Decided, cutIn, ticksIn, entriesIn}
+use Rattle.model.specs.HandsOn.{HandedOn, handOns}
 use Rattle.model.specs.Meter.{notesOf, MetersAre, Balanced}
 use Rattle.model.specs.Rule.{Good}
 use native.Mathlib.Omega.{arith}
-use Rattle.model.proofs.Split.{Calm}
-use Rattle.model.proofs.Keeps.{slot-good, run-good, fresh-good}
+use Rattle.model.proofs.RuleParts.{Calm}
+use Rattle.model.proofs.RuleKept.{slot-good, run-good, fresh-good, start-fresh}
 use Rattle.model.proofs.MeterHistory as meters
 use Rattle.model.proofs.Settling as settling
 use Rattle.model.proofs.TableTest as tested
 use Rattle.model.proofs.Refusals as refusals
 use Rattle.model.proofs.Address as address
 use Rattle.model.proofs.HandOnHistory as handed
+use Rattle.model.proofs.HandOnTable.{takesBytes, other-calls-hand-nothing-on}
 use Rattle.model.proofs.Bound as bound
-use Rattle.model.proofs.DueMoment.{Each, Told}
-use Rattle.model.proofs.DueTold as told
+use Rattle.model.proofs.Readable as readable
+use Rattle.model.proofs.AtOnce as atOnce
+use Rattle.model.proofs.CodeHistory.{answered-decided}
+use Rattle.model.proofs.CodeMoment.{Each, Told}
+use Rattle.model.proofs.CodeTold as told
 use Rattle.model.proofs.Neighbour as neighbours
 
 -- ---- DEMAND 1, of the rules: "A call it can't serve is refused by a number from our list, exactly when the list says"
 
--- for each number of the list, when it is given, as one record (proofs/Refusals); a refused call changes nothing by its shape
+-- for each number of the list, when it is given, as one record (proofs/Refusals)
 pub refused-exactly : (s : List ℕ) (l : Lent) (t : Table) (c : Call) → refusals.Refusals s l t c
 refused-exactly = refusals.each-number
+
+-- the same of a start: "1 to 4 hold for every call, but start skips 4"
+pub start-refused-exactly : (s : List ℕ) (l : Lent) (t : Table) → refusals.StartRefusals s l t
+start-refused-exactly = refusals.start-numbers
+
+-- "and a refused call changes nothing in any memory lent to it": it has row 255, takes nothing, says nothing and leaves the table
+pub refused-changes-nothing : (s : List ℕ) (l : Lent) (t : Table) (c : Call) → (numberOf (step s l t c) ≡ 0 → ⊥) → refusals.Unchanged t (step s l t c)
+refused-changes-nothing s l t c = refusals.refused-unchanged t (step s l t c)
+
+-- ---- "From a fresh table": that is what an accepted start leaves, over the rooms that were lent, whatever the table was
+
+pub start-is-fresh : (s : List ℕ) (l : Lent) (t : Table) (d : Did) → startStep s l t ≡ did d → d .table ≡ fresh (map (λ (h : Held). h .rooms) t)
+start-is-fresh = start-fresh
 
 -- ---- Rule 4 is kept: every call on a table that keeps it leaves one that keeps it, and so refusal 4 never meets a history
 
@@ -68,10 +86,34 @@ pub handed-on-exactly : (s : List ℕ) (rooms : List (List (List ℕ))) (ms : Li
     → HandedOn (slotSheet s f) (slot (run s (fresh rooms) ms) f) seat input (d .items) (d .long)
 handed-on-exactly = handed.history-hands-on
 
+-- and no call but bytes hands anything on
+pub nothing-else-hands-on : (s : List ℕ) (l : Lent) (t : Table) (c : Call) → takesBytes c ≡ false → handOns (itemsOf (step s l t c)) ≡ 0
+nothing-else-hands-on = other-calls-hand-nothing-on
+
+-- ---- DEMAND 2, of activation codes: a readable request that needs no check is answered by the call that finishes it, with the code that the
+-- rules give; its entries begin with that 0006. (One that needs a check is demand 3's.)
+
+pub answered-at-once : (s : List ℕ) (rooms : List (List (List ℕ))) (ms : List Made) (l : Lent) (r f seat : ℕ) (input : List ℕ) (q : Request) (code : ℕ)
+    (d : Did) → mostPayload ≤ length (getD (getD rooms f []) seat []) → ownerOf s r ≡ Seat (farmNo f) seat
+    → step s l (run s (fresh rooms) ms) (bytesFrom r input) ≡ did d → ReadableNow (slotSheet s f) (slot (run s (fresh rooms) ms) f) seat input q code
+    → Begins (says (slotSheet s f) seat (Activation (q .address) (slotSheet s f .entity) code)) (d .items)
+answered-at-once = atOnce.history-at-once
+
 -- ---- DEMAND 3: "a readable activation request that must wait for an alive check, and joins its farm's line at place k, has its final answer
 -- by the accepted clock tick number 50 times k after it joined, unless its own connection or its farm's link is lost first. Nobody's traffic
 -- can delay it further."
 
+-- The request is told by its bytes: a whole 0005 that the header rules pass, in the row's 2,048 bytes of room. `Decided`: some call among
+-- those that follow sends it a 0006 for its address, with the code that the rules give in that call.
+pub readable-answered-in-time : (s : List ℕ) (rooms : List (List (List ℕ))) (past : List Made) (m : Made) (row g seat k : ℕ) (q : Request)
+    → mostPayload ≤ length (getD (getD rooms g []) seat [])
+    → ReadableWaits s (run s (fresh rooms) past) m row g seat q → k ≡ length (slot (run s (fresh rooms) past) g .farm .line) + 1
+    → let joined = tableOf (run s (fresh rooms) past) (stepOf s (run s (fresh rooms) past) m) in
+    (ms : List Made) → cutIn row g s joined ms ≡ false → checkLimit * k ≤ ticksIn s joined ms → Decided s row (q .address) joined ms
+readable-answered-in-time s rooms past m row g seat k q room w e ms c h =
+    answered-decided s row (q .address) _ ms (readable.readable-is-answered s rooms past m row g seat k q room w e ms c h)
+
+-- of a request that the call reads, whatever room it has: a 0006 is among the entries
 pub answered-in-time : (s : List ℕ) (rooms : List (List (List ℕ))) (past : List Made) (m : Made) (row g seat k : ℕ) (q : Request)
     → MustWait s (run s (fresh rooms) past) m row g seat q → k ≡ length (slot (run s (fresh rooms) past) g .farm .line) + 1
     → let joined = tableOf (run s (fresh rooms) past) (stepOf s (run s (fresh rooms) past) m) in

@@ -17,7 +17,7 @@ use Rattle.model.specs.Row.{rowAt, isOpen}
 use Rattle.model.specs.Move.{noRow}
 use Rattle.model.specs.Table.{Table, slot, Call, Lent, leastOutput, assemblingSize, Outcome, refuses, did, step, startStep, numberOf, rowOf, tookOf, itemsOf, longOf, tableOf}
 use Rattle.model.proofs.TableTest.{TableKeeps}
-use Rattle.model.proofs.TableRefuses.{FarmKnown, rowIn, RowOpen, NotWaiting, RowLeft, UserFits, EndsKnown, refusals, start-refusals}
+use Rattle.model.proofs.RefusalList.{FarmKnown, rowIn, RowOpen, NotWaiting, RowLeft, UserFits, EndsKnown, refusals, start-refusals}
 
 -- ---- rule 6 in the sheet's own words
 

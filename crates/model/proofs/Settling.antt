@@ -30,7 +30,7 @@ use Rattle.model.specs.Line.{accepted, byHolder, socketRules, askedBy, i
 use Rattle.model.specs.Rule.{HeadKeeps}
 use Rattle.model.proofs.Cases.{pick-case, split}
 use Rattle.model.proofs.Seats.{each-keeps}
-use Rattle.model.proofs.Split.{Calm}
+use Rattle.model.proofs.RuleParts.{Calm}
 
 -- ---- what the head of the line needs, and which rows its check asks
 

@@ -24,12 +24,12 @@ use Rattle.kinds.specs.Clock.{generalLimit, clockOf}
 use Rattle.model.specs.Row.{waitingRow, activeRow, rowAt, isOpenState, isOpen, isWaitingState, isWaiting, isActiveState, isActive, activeAsState, activeAs, atLimitState, heardState}
 use Rattle.model.specs.Stream.{Event, inputEnded, wrong, finished, skipped, Taken, streamOf}
 use Rattle.model.specs.Farm.{Farm, Done, andThen}
-use Rattle.model.specs.Line.{accepted, byState, socketRules, decide, answered, isEmpty, joined, isAsked, marked}
+use Rattle.model.specs.Line.{accepted, byState, socketRules, decide, answered, isEmpty, joined, marked, answersCheck}
 use Rattle.model.specs.Bytes.{decidedBy, requested, toTarget, diagnosed, eventDone, heardRow, heard, takenBy, bytesDone}
 use Rattle.model.specs.Rule.{RowKeeps}
 use Rattle.model.proofs.Cases.{pick-case, unless-case}
 use Rattle.model.proofs.Rows.{row-same, open-in, times-append}
-use Rattle.model.proofs.Split.{Sound}
+use Rattle.model.proofs.RuleParts.{Sound}
 use Rattle.model.proofs.SoundRows.{Kept, Lined, Young, kept-of, sound-from, active-young, Fits, put-kept, put-young, put-lined}
 use Rattle.model.proofs.SoundClose.{closed-sound}
 use Rattle.model.proofs.SoundLine.{socket-case, started-sound, room-fits, settled-sound}
@@ -226,7 +226,7 @@ module _ {own : FarmSheet} {f : Farm} (seat : ℕ) (s : Sound own f) (k : Talks 
   pub marked-sound : (a : ℕ) → Sound own (marked own seat a f)
   unfolding marked
   marked-sound a =
-      pick-case (Sound own) (both (activeAs a (rowAt (f .rows) seat)) (isAsked own f seat)) _ _
+      pick-case (Sound own) (answersCheck own seat a f) _ _
       (λ _. sound-from (kept-of s) (s .young) (s .lined) (length-set (f .marks) seat true ∙ s .marksToo)) (λ _. s)
 
   pub diagnosed-sound : (e : Ends) → Sound own (diagnosed own seat e f .farm)

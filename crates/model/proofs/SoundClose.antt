@@ -19,7 +19,7 @@ use Rattle.model.specs.Farm.{Farm, seatCount, Done, andThen, closed, clo
 use Rattle.model.proofs.Cases.{pick-case, split}
 use Rattle.model.proofs.Rows.{row-put, row-set, row-other, count-free}
 use Rattle.model.proofs.Seats.{seatsTo, seats-all, closings-keep}
-use Rattle.model.proofs.Split.{Sound}
+use Rattle.model.proofs.RuleParts.{Sound}
 use Rattle.model.proofs.SoundRows.{Kept, Lined, Young, kept-of, sound-from, free-kept, free-young, free-lined}
 
 -- a row that does not wait closes

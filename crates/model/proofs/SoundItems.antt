@@ -38,7 +38,7 @@ use Rattle.model.specs.History.{onRow}
 use Rattle.model.proofs.Cases.{pick-case, unless-case, split}
 use Rattle.model.proofs.Rows.{row-set, open-in}
 use Rattle.model.proofs.Seats.{then-farm}
-use Rattle.model.proofs.Split.{Sound}
+use Rattle.model.proofs.RuleParts.{Sound}
 use Rattle.model.proofs.SoundRows.{kept-of, waiting-open, active-open, as-active, limit-open, ours, free-kept}
 use Rattle.model.proofs.SoundLine.{first-case, socket-case, Ready, advanced-line, advanced-sound, Licence, head-licence, served-waits, answer-ready, run-out-ready}
 use Rattle.model.proofs.SoundStream.{PossibleIn}

@@ -28,7 +28,7 @@ use Rattle.model.specs.Line.{accepted, byHolder, socketRules, asks, isMa
 use Rattle.model.proofs.Cases.{pick-case, split}
 use Rattle.model.proofs.Rows.{open-in}
 use Rattle.model.proofs.Seats.{each-keeps}
-use Rattle.model.proofs.Split.{Sound}
+use Rattle.model.proofs.RuleParts.{Sound}
 use Rattle.model.proofs.SoundRows.{Kept, Lined, Young, kept-of, sound-from, waiting-open, as-active, active-loud, waiting-not, wanted-tester, active-young, Fits, put-kept, free-kept, free-young, put-young, head-waits, head-gone}
 use Rattle.model.proofs.SoundClose.{closings-kept, closings-young, closings-count, closings-fewer, closings-lined}
 

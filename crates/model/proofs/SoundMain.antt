@@ -9,7 +9,7 @@ use Rattle.model.specs.Line.{settle}
 use Rattle.model.specs.Move.{Own, Held, Given, gave, ticked, move, tickMove}
 use Rattle.model.specs.Rule.{Good}
 use Rattle.model.specs.History.{onRow}
-use Rattle.model.proofs.Split.{Sound, FarmOk, sound-of}
+use Rattle.model.proofs.RuleParts.{Sound, FarmOk, sound-of}
 use Rattle.model.proofs.SoundLine.{settled-sound}
 use Rattle.model.proofs.SoundMove.{KeepsSound, newly-sound, move-keeps, ticked-sound}
 use Rattle.model.proofs.SoundItems.{MineBy, isDatagram, move-mine, ticked-mine}

@@ -26,7 +26,7 @@ use Rattle.model.specs.Move.{Own, connect, bytes, peerClosed, linkLost, 
 use Rattle.model.specs.Rule.{times, RowKeeps, PossibleAt}
 use Rattle.model.proofs.Cases.{pick-case, unless-case}
 use Rattle.model.proofs.Rows.{row-map, open-in, count-map, times-gone, times-kept}
-use Rattle.model.proofs.Split.{Sound}
+use Rattle.model.proofs.RuleParts.{Sound}
 use Rattle.model.proofs.SoundRows.{Kept, Lined, Young, kept-of, sound-from, one-small, shut-loud, limit-loud, fresh-young, put-kept, free-kept, free-young, put-young, put-lined}
 use Rattle.model.proofs.SoundClose.{closings-line, closings-marks, closings-kept, closings-young, closings-lined, closings-none}
 use Rattle.model.proofs.SoundLine.{first-case, no-marks, advanced-sound, settled-sound}

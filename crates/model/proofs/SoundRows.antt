@@ -20,7 +20,7 @@ use Rattle.model.specs.Farm.{Farm, seatCount}
 use Rattle.model.specs.Rule.{times, PossibleAt, RowKeeps}
 use Rattle.model.proofs.Cases.{split}
 use Rattle.model.proofs.Rows.{row-put, row-set, count-set, count-free}
-use Rattle.model.proofs.Split.{Sound}
+use Rattle.model.proofs.RuleParts.{Sound}
 
 -- ---- Sound in four parts
 

@@ -17,7 +17,7 @@ use Rattle.model.specs.FarmSheet.{slotSheet}
 use Rattle.model.specs.Rule.{Good}
 use Rattle.model.specs.Table.{Table, slot, goodFrom, goodTable, Call, Lent, step, tableOf}
 use Rattle.model.specs.History.{Made, fresh, run}
-use Rattle.model.proofs.Keeps.{GoodAll, step-keeps, fresh-good, run-good}
+use Rattle.model.proofs.RuleKept.{GoodAll, step-keeps, fresh-good, run-good}
 use Rattle.model.proofs.RuleTestLaws.{farm-says}
 
 -- ---- rule 4, of the whole table

@@ -28,7 +28,7 @@ use Rattle.model.specs.FarmSheet.{FarmSheet, TargetIs, stranger, unreach
 use Rattle.model.specs.Row.{freeRow, rowAt, isFreeState, isFree, older, wanted, isOpen, activeAs}
 use Rattle.model.specs.Stream.{Event, inputEnded, wrong, finished, skipped, Taken, takes}
 use Rattle.model.specs.Farm.{Farm, seatCount, newFarm, withMarks, Done, does, quietly, andThen, says, closed, closedWhere}
-use Rattle.model.specs.Line.{asks, isAsked, accepted, socketRules, decide, isSilent, askedIf, asking, cleared, startedBy, started, advanced, answered, headVerdict, serve, settleLine, settle, joined, leftBy, left, marked, isEmpty}
+use Rattle.model.specs.Line.{asks, accepted, socketRules, decide, isSilent, askedIf, asking, cleared, startedBy, started, advanced, answered, headVerdict, serve, settleLine, settle, joined, leftBy, left, marked, isEmpty, answersCheck}
 use Rattle.model.specs.Bytes.{decidedBy, requested, toTarget, diagnosed, messaged, faulted, eventDone, heard, takenBy, bytesDone}
 use Rattle.model.specs.Move.{Own, connect, bytes, peerClosed, linkLost, datagram, controller, Held, Given, Move, refused, gave, connects, connectedAt, bytesBy, peerGone, linkGone, clockRun, aged, ticked, moves, mostUser, isTarget, controllerMove, datagramMove, toTester, move}
 use Rattle.model.specs.Rule.{Tidy}
@@ -117,11 +117,7 @@ module _ (own : FarmSheet) where
 
   tidy-marked : (seat address : ℕ) (f : Farm) → TidyFarm f → TidyFarm (marked own seat address f)
   unfolding marked
-  tidy-marked seat address f t = by (both (activeAs address (rowAt (f .rows) seat)) (isAsked own f seat))
-    where
-      by : (b : Bool) → TidyFarm (pick b (withMarks f (set (f .marks) seat true)) f)
-      by true = t
-      by false = t
+  tidy-marked seat address f t = pick-case TidyFarm (answersCheck own seat address f) _ _ (λ _. t) (λ _. t)
 
   tidy-requested : (seat : ℕ) (q : Request) (f : Farm) → TidyFarm f → TidyDone (requested own seat q f)
   unfolding requested

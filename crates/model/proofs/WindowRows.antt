@@ -25,7 +25,7 @@ use Rattle.kinds.specs.Clock.{clockOf}
 use Rattle.model.specs.Row.{rowOf, rowAt, wanted, waitingRow, activeAs, isOpen, atLimit}
 use Rattle.model.specs.Stream.{Event, inputEnded, wrong, finished, skipped}
 use Rattle.model.specs.Farm.{Farm, Done, does, quietly, withRow, withLine, says, closed, closedWhere}
-use Rattle.model.specs.Line.{accepted, socketRules, decide, asks, askedIf, asking, cleared, startedBy, started, advanced, answered, isSilent, isAsked, headVerdict, serve, settleLine, settle, isEmpty, joined, without, leftBy, left, marked}
+use Rattle.model.specs.Line.{accepted, socketRules, decide, asks, askedIf, asking, cleared, startedBy, started, advanced, answered, isSilent, headVerdict, serve, settleLine, settle, isEmpty, joined, without, leftBy, left, marked, answersCheck}
 use Rattle.model.specs.Bytes.{decidedBy, requested, toTarget, diagnosed, eventDone}
 use Rattle.model.specs.Move.{peerGone, linkGone, clockRun, aged, ticked}
 use Rattle.model.proofs.Cases.{pick-case}
@@ -107,7 +107,7 @@ module _ (own : FarmSheet) (P : Farm → Type 0) (same : (f g : Farm) → f .row
   marked-keeps : (seat address : ℕ) (f : Farm) → P f → P (marked own seat address f)
   unfolding marked
   marked-keeps seat address f p =
-      pick-case P (both (activeAs address (rowAt (f .rows) seat)) (isAsked own f seat)) _ _ (λ e. same f _ refl p) (λ e. p)
+      pick-case P (answersCheck own seat address f) _ _ (λ e. same f _ refl p) (λ e. p)
 
   -- ---- the calls
 

@@ -30,11 +30,15 @@ inHandBytes (Header n) head room = take n head
 inHandBytes (Reading n) head room = head ++ take n room
 inHandBytes (Skipping n) head room = head
 
--- "A whole diagnostic message that the header rules pass" stands at the front of these bytes
-pub record Whole (m : List ℕ) : Type 0 where
+-- a whole message of this type, that the header rules pass, stands at the front of these bytes
+pub record WholeOf (kind : ℕ) (m : List ℕ) : Type 0 where
   pub whole : headerSize + headerAt m 0 .length ≤ length m
   pub passes : verdictOf (headerAt m 0) ≡ Passes
-  pub diagnostic : headerAt m 0 .kind ≡ 0x8001
+  pub isKind : headerAt m 0 .kind ≡ kind
+
+-- "A whole diagnostic message that the header rules pass"
+abbrev pub Whole : List ℕ → Type 0
+Whole m = WholeOf 0x8001 m
 
 -- its payload: the bytes behind the header, so many as it announces
 abbrev pub payloadOf : List ℕ → List ℕ

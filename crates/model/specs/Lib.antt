@@ -9,6 +9,6 @@ pub mod Rule
 pub mod RuleTest
 pub mod Table
 pub mod History
-pub mod Words
 pub mod HandsOn
+pub mod Words
 pub mod Meter

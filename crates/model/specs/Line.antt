@@ -183,6 +183,8 @@ unfoldable pub isAsked : FarmSheet → Farm → ℕ → Bool
 isAsked own f seat = askedIn own f (f .line) seat
 
 -- "0008 with the row's own address from an asked row marks it; any other 0008 is dropped."
+abbrev pub answersCheck : FarmSheet → ℕ → ℕ → Farm → Bool
+answersCheck own seat address f = both (activeAs address (rowAt (f .rows) seat)) (isAsked own f seat)
+
 unfoldable pub marked : FarmSheet → ℕ → ℕ → Farm → Farm
-marked own seat address f =
-    pick (both (activeAs address (rowAt (f .rows) seat)) (isAsked own f seat)) (withMarks f (set (f .marks) seat true)) f
+marked own seat address f = pick (answersCheck own seat address f) (withMarks f (set (f .marks) seat true)) f

@@ -1,6 +1,6 @@
 -- The words of demand 3's bound: a request that must wait, its place in the line, accepted ticks, cuts, answers.
 -- Assumes nothing: these are definitions.
-use Prim.Native.Nat.{ℕ, zero, suc, _+_, _≤_}
+use Prim.Native.Nat.{ℕ, zero, suc, _+_, _≤_, _<_}
 use mathlib.Core.Path.{_≡_}
 use mathlib.Core.Bool.{Bool, true, false}
 use mathlib.Core.List.{List, [], _∷_, _++_, List·Memᴰ}
@@ -16,29 +16,32 @@ use Rattle.kinds.specs.declared.HeadVerdict.the-variants.{Pending}
 use Rattle.wire.specs.Header.{ourVersion}
 use Rattle.wire.specs.Payload.{requestIn}
 use Rattle.sheet.specs.declared.rows.Owner.the-variants.{Seat}
-use Rattle.sheet.specs.Sheet.{farmNo}
+use Rattle.sheet.specs.Sheet.{farmCount, farmNo}
 use Rattle.sheet.specs.Rows.{ownerOf}
 use Rattle.model.specs.FarmSheet.{FarmSheet, slotSheet}
 use Rattle.kinds.specs.Clock.{checkLimit}
-use Rattle.model.specs.Row.{rowAt, wanted}
+use Rattle.model.specs.Row.{rowAt, wanted, atLimit}
 use Rattle.model.specs.Stream.{finished, Taken}
-use Rattle.model.specs.Farm.{Farm, quietly, andThen, says, closed}
+use Rattle.model.specs.Farm.{Farm, quietly, andThen, says, closed, closedWhere}
 use Rattle.model.specs.Line.{accepted, socketRules, decide, allAnswered, refusalOf, headVerdict, serve, left}
 use Rattle.model.specs.Bytes.{takenBy, eventDone, heard}
-use Rattle.model.specs.Move.{Own, bytes, peerClosed, Held}
-use Rattle.model.specs.Table.{Table, slot, Call, connectTo, bytesFrom, peerClosedOn, linkLostOf, tick, datagramTo, messageFrom, numberOf, itemsOf, tableOf}
+use Rattle.model.specs.Move.{Own, bytes, peerClosed, Held, clockRun, aged}
+use Rattle.model.specs.Table.{Table, slot, Call, connectTo, bytesFrom, peerClosedOn, linkLostOf, tick, datagramTo, messageFrom, farms, everyones, whose, numberOf, itemsOf, tableOf}
 use Rattle.model.specs.History.{Made, stepOf}
+use Rattle.model.specs.HandsOn.{WholeOf, payloadOf, bytesAt}
 
 -- the seat stands in the line with k others before it: "the head being place 1", that is place k + 1
 pub data Stands (seat : ℕ) : List ℕ → ℕ → Type 0 where
   first : {x : ℕ} {l : List ℕ} → seat ≡ x → Stands seat (x ∷ l) zero
   behind : {x : ℕ} {l : List ℕ} {k : ℕ} → Stands seat l k → Stands seat (x ∷ l) (suc k)
 
--- a response 0006 to this row, for this address, is among the entries
+-- the response 0006 to this row, for this address
+abbrev pub response : ℕ → ℕ → ℕ → ℕ → Item
+response row address entity code = record { row = record { 0 = row }; version = ourVersion; reply = Activation address entity code }
+
+-- one is among the entries
 pub data Answered (row address : ℕ) (items : List Item) : Type 0 where
-  answers : (entity code : ℕ)
-      → List·Memᴰ (record { row = record { 0 = row }; version = ourVersion; reply = Activation address entity code }) items
-      → Answered row address items
+  answers : (entity code : ℕ) → List·Memᴰ (response row address entity code) items → Answered row address items
 
 -- the call was done, not refused
 abbrev pub isDone : List ℕ → Table → Made → Bool
@@ -61,6 +64,29 @@ pub record MustWait (s : List ℕ) (t : Table) (m : Made) (row farm seat : ℕ) 
   pub whole : takenOf (slot t farm) seat input .event ≡ finished 0x0005 size
   pub reads : requestIn (take size (takenOf (slot t farm) seat input .stream .room)) ≡ q
   pub waits : decide (slotSheet s farm) (slot t farm .farm .rows) seat q ≡ Ask check
+
+-- the same, said by the bytes: with this call, which is done, the bytes that the row has in hand and the input behind them begin with a whole
+-- 0005 that the header rules pass ("readable"), its payload holds this request, and the rules say that a check comes first
+pub record ReadableWaits (s : List ℕ) (t : Table) (m : Made) (row farm seat : ℕ) (q : Request) : Type 0 where
+  pub input : List ℕ
+  pub check : Check
+  pub bytesOf : m .call ≡ bytesFrom row input
+  pub done : isDone s t m ≡ true
+  pub owner : ownerOf s row ≡ Seat (farmNo farm) seat
+  pub readable : WholeOf 0x0005 (bytesAt (slot t farm) seat input)
+  pub reads : requestIn (payloadOf (bytesAt (slot t farm) seat input)) ≡ q
+  pub waits : decide (slotSheet s farm) (slot t farm .farm .rows) seat q ≡ Ask check
+
+-- a readable request that has its answer at once: the rules, looking at its farm when the bytes are in, need no check
+pub record ReadableNow (own : FarmSheet) (h : Held) (seat : ℕ) (input : List ℕ) (q : Request) (code : ℕ) : Type 0 where
+  pub readable : WholeOf 0x0005 (bytesAt h seat input)
+  pub reads : requestIn (payloadOf (bytesAt h seat input)) ≡ q
+  pub decided : decide own (heard seat (takenOf h seat input) (h .farm) .rows) seat q ≡ Now code
+
+-- the entries begin with this one
+pub record Begins (it : Item) (items : List Item) : Type 0 where
+  pub rest : List Item
+  pub begins : items ≡ it ∷ rest
 
 -- ---- along a history, from a table on
 
@@ -150,3 +176,23 @@ pub data Why (own : FarmSheet) (h : Held) (c : Own) (it : Item) : Type 0 where
       → it ≡ says own seat (Activation (q .address) (own .entity) code) → Why own h c it
   -- the head of the line has its answer
   inLine : (g : Farm) → ToSettle own h c g → AnswerAt own (g .line) g it → Why own h c it
+
+-- ---- the same of a call on the whole table, and along a history
+
+-- the farm that a tick hands to settling
+abbrev pub tickSettles : FarmSheet → Farm → Farm
+tickSettles own f = closedWhere own (λ seat r. atLimit r) (aged (clockRun (f .line) f)) .farm
+
+-- why a call sends a response 0006: it is a call of a farm, or a tick, and the rules give it on that farm as it is then
+pub data Reasoned (s : List ℕ) (t : Table) (c : Call) (it : Item) : Type 0 where
+  byCall : (f : ℕ) (own : Own) → whose s c ≡ farms f own → Why (slotSheet s f) (slot t f) own it → Reasoned s t c it
+  byTick : (f : ℕ) → f < farmCount s → whose s c ≡ everyones
+      → AnswerAt (slotSheet s f) (tickSettles (slotSheet s f) (slot t f .farm) .line) (tickSettles (slotSheet s f) (slot t f .farm)) it
+      → Reasoned s t c it
+
+-- some call of the history sends this row a response 0006 for this address, with the code that the rules give in that call
+pub data Decided (s : List ℕ) (row address : ℕ) : Table → List Made → Type 0 where
+  here : {t : Table} {m : Made} {ms : List Made} (entity code : ℕ)
+      → List·Memᴰ (response row address entity code) (itemsOf (stepOf s t m))
+      → Reasoned s t (m .call) (response row address entity code) → Decided s row address t (m ∷ ms)
+  later : {t : Table} {m : Made} {ms : List Made} → Decided s row address (tableOf t (stepOf s t m)) ms → Decided s row address t (m ∷ ms)

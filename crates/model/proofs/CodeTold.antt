@@ -36,7 +36,7 @@ use Rattle.model.specs.Move.{Own, connect, bytes, peerClosed, linkLost, 
 use Rattle.model.specs.Table.{itemsBy}
 use Rattle.model.specs.Words.{takenOf, ToSettle, afterBytes, afterClose, Why, atOnce, inLine}
 use Rattle.model.proofs.Cases.{pick-case, unless-case}
-use Rattle.model.proofs.DueMoment.{Each, none-each, one-each, append-each, then-each, Plain, closed-plain, closings-plain, started-plain, advanced-plain, Told, plain-told, settle-told}
+use Rattle.model.proofs.CodeMoment.{Each, none-each, one-each, append-each, then-each, Plain, closed-plain, closings-plain, started-plain, advanced-plain, Told, plain-told, settle-told}
 
 -- one that is said, then the row closes
 said-closed : (own : FarmSheet) (i : ℕ) (it : Item) (f : Farm) → Plain it → Each Plain (andThen (does f (it ∷ [])) (closed own i) .items)

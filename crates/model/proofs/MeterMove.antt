@@ -1,4 +1,5 @@
--- The same for the calls of a farm: a call starts with nothing said, on a farm that keeps rule 4.
+-- A property that the single doings of a farm keep (MeterDoings) is kept by the calls of a farm: a call starts with nothing said, on a farm
+-- that keeps rule 4.
 -- Assumes nothing.
 use Prim.{Unit, tt}
 use Prim.Native.Nat.{ℕ, zero, suc, _≤_, _<_}
@@ -42,9 +43,9 @@ use Rattle.model.specs.Rule.{times, RowKeeps, Good}
 use Rattle.model.specs.Meter.{isClose}
 use Rattle.model.proofs.Cases.{pick-case, unless-case}
 use Rattle.model.proofs.Rows.{row-put, row-set, row-same, row-map, open-in}
-use Rattle.model.proofs.Balance.{closing, Rests, takes-rests, hand-open, hand-boundary, Clear, clear-of, clear-older}
-use Rattle.model.proofs.MeterFarm.{Laws, Keeps, Then, then-then, then-quiet, open-below, speak-keeps, closings-keeps, lines-keeps, first-picked, settle-keeps}
-use Rattle.model.proofs.MeterFarmLine.{Ready, ready-closed, ready-closings, ready-answered, ready-joined, ready-left, ready-marked}
+use Rattle.model.proofs.MeterBalance.{closing, Rests, takes-rests, hand-open, hand-boundary, Clear, clear-of, clear-older}
+use Rattle.model.proofs.MeterDoings.{Laws, Keeps, Then, then-then, then-quiet, open-below, speak-keeps, closings-keeps, lines-keeps, first-picked, settle-keeps}
+use Rattle.model.proofs.MeterLine.{Ready, ready-closed, ready-closings, ready-answered, ready-joined, ready-left, ready-marked}
 
 -- ---- what rule 4 gives
 

@@ -16,9 +16,9 @@ use Rattle.model.specs.Rule.{Good}
 use Rattle.model.specs.Table.{heldBy}
 use Rattle.model.specs.Meter.{hands, Differs}
 use Rattle.model.proofs.Rows.{open-in}
-use Rattle.model.proofs.Balance.{wrap-left, wrap-more, wrap-right, fits-of, takes-balance, hands-same, hands-set, hands-free, hand-open, hand-boundary, hands-older}
-use Rattle.model.proofs.MeterFarm.{Laws}
-use Rattle.model.proofs.MeterFarmMove.{Talks, heard-hand, Got, Hears, bytes-got, connect-got, peer-got, link-got, datagram-got, message-got, tick-keeps}
+use Rattle.model.proofs.MeterBalance.{wrap-left, wrap-more, wrap-right, fits-of, takes-balance, hands-same, hands-set, hands-free, hand-open, hand-boundary, hands-older}
+use Rattle.model.proofs.MeterDoings.{Laws}
+use Rattle.model.proofs.MeterMove.{Talks, heard-hand, Got, Hears, bytes-got, connect-got, peer-got, link-got, datagram-got, message-got, tick-keeps}
 
 -- the sum of the bytes in hand stands where it stood
 hands-alike : (d : ℕ) (f : Farm) (n : ℕ) → n ≡ hands (f .rows) → Differs d f

@@ -21,7 +21,7 @@ use Rattle.model.specs.Line.{accepted, socketRules, asks, isSilent, aske
 use Rattle.model.specs.Words.{Because, Moment, thisHead, nextHead, AnswerAt}
 use Rattle.model.proofs.Cases.{pick-case}
 use Rattle.model.proofs.Seats.{seatsTo, seats-suc, seats-all, seats-zero}
-use Rattle.model.proofs.DueAnswer.{Reason, verdict-because}
+use Rattle.model.proofs.CodeAnswer.{Reason, verdict-because}
 
 -- ---- what holds of each entry
 

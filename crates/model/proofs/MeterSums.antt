@@ -15,8 +15,8 @@ use Rattle.model.specs.FarmSheet.{FarmSheet}
 use Rattle.model.specs.Row.{rowAt, inHandBy, inHand, isOpenState, isOpen}
 use Rattle.model.specs.Farm.{Farm}
 use Rattle.model.specs.Meter.{Log, total, sumTo, finishedIn, unfinishedIn, finishedOn, lostOn, hands}
-use Rattle.model.proofs.MeterFarmCut.{finished-most}
-use Rattle.model.proofs.MeterFarmLog.{allOn, sum-same, Tied, tied-hand, Logged}
+use Rattle.model.proofs.MeterCut.{finished-most}
+use Rattle.model.proofs.MeterLog.{allOn, sum-same, Tied, tied-hand, Logged}
 
 -- ---- sums
 

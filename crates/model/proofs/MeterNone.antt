@@ -23,9 +23,9 @@ use Rattle.model.specs.Table.{Table, noHeld, slot, Call, connectTo, byte
 use Rattle.model.specs.History.{Made, stepOf, run}
 use Rattle.model.specs.Meter.{Said, turnedAway, gives, saidBy, finishedUpTo, finishedIn, total, Log, noLog, took, begun, filed, filedBy, isClose, bytesOn, isConnect, tookOn, takenBy, notedBy, finishedOn, lostOn, notesOf, logFrom, logOf, sumTo, takenOf, finishedOf, lostOf}
 use Rattle.model.proofs.Cases.{pick-case, split}
-use Rattle.model.proofs.MeterFarmSlot.{step-cases, step-length}
-use Rattle.model.proofs.MeterFarmLog.{sum-same}
-use Rattle.model.proofs.MeterFarmTable.{first-is, rows-is, not-owned, foreign}
+use Rattle.model.proofs.MeterSlot.{step-cases, step-length}
+use Rattle.model.proofs.MeterLog.{sum-same}
+use Rattle.model.proofs.MeterTable.{first-is, rows-is, not-owned, foreign}
 
 -- a log of connections that gave nothing
 pub record Blank (l : Log) : Type 0 where

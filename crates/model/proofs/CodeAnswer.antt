@@ -1,4 +1,4 @@
--- "The answer is the one the rules give at the moment of deciding."
+-- "The answer is the one the rules give at the moment of deciding.": the answer to one head, and its reason.
 -- Assumes nothing.
 use Prim.Native.Nat.{ℕ}
 use mathlib.Core.Path.{_≡_, refl, ap, _∙_}
@@ -53,7 +53,8 @@ closingsBy own f Pending = []
 closingsBy own f (Answer code) = []
 closingsBy own f (RunOut check) = closedWhere own (isSilent check (f .marks)) f .items
 
-said : (own : FarmSheet) (head address code : ℕ) (f : Farm)
+-- an answer begins with its 0006
+pub said : (own : FarmSheet) (head address code : ℕ) (f : Farm)
     → (rest : List Item) × (answered own head address code f .items ≡ says own head (Activation address (own .entity) code) ∷ rest)
 unfolding answered andThen
 said own head address code f =

@@ -27,10 +27,10 @@ use Rattle.model.specs.Table.{Table, slot, Call, connectTo, bytesFrom, p
 use Rattle.model.specs.History.{Made, stepOf}
 use Rattle.model.specs.Meter.{gives, Log, took, filedBy, bytesOn, isConnect, ownsRow, tookOn, takenBy, notedBy, saidBy}
 use Rattle.model.proofs.Cases.{pick-case, split}
-use Rattle.model.proofs.MeterFarmMove.{Got, opens-at}
-use Rattle.model.proofs.MeterFarmLog.{Logged, logged-same, after, filed-append}
-use Rattle.model.proofs.MeterFarmTold.{Foreign, Quiet, move-quiet, tick-quiet, Told, took-none, told-peer, told-link, told-datagram, told-message, told-connect, told-bytes, told-tick}
-use Rattle.model.proofs.MeterFarmSlot.{next-one, step-cases, slot-set, slot-ticked}
+use Rattle.model.proofs.MeterMove.{Got, opens-at}
+use Rattle.model.proofs.MeterLog.{Logged, logged-same, after, filed-append}
+use Rattle.model.proofs.MeterTold.{Foreign, Quiet, move-quiet, tick-quiet, Told, took-none, told-peer, told-link, told-datagram, told-message, told-connect, told-bytes, told-tick}
+use Rattle.model.proofs.MeterSlot.{next-one, step-cases, slot-set, slot-ticked}
 
 -- ---- the rows of two farms differ
 

@@ -28,10 +28,10 @@ use Rattle.model.specs.Rule.{Good}
 use Rattle.model.specs.Table.{Call, connectTo, bytesFrom, peerClosedOn, linkLostOf, datagramTo, messageFrom}
 use Rattle.model.specs.Meter.{Log, took, begun, filedBy, isClose, bytesOn, isConnect, ownsRow, tookOn}
 use Rattle.model.proofs.Cases.{pick-case}
-use Rattle.model.proofs.MeterFarm.{Laws, open-below}
-use Rattle.model.proofs.MeterFarmMove.{Got, bytes-got, opens-at, connect-got, peer-got, link-got, datagram-got, message-got, tick-keeps}
-use Rattle.model.proofs.MeterFarmLog.{TiedBy, Logged, logged-same, after, filed-append, filed-quiet}
-use Rattle.model.proofs.MeterFarmNote.{logged-laws, Notes, hears-logged}
+use Rattle.model.proofs.MeterDoings.{Laws, open-below}
+use Rattle.model.proofs.MeterMove.{Got, bytes-got, opens-at, connect-got, peer-got, link-got, datagram-got, message-got, tick-keeps}
+use Rattle.model.proofs.MeterLog.{TiedBy, Logged, logged-same, after, filed-append, filed-quiet}
+use Rattle.model.proofs.MeterNote.{logged-laws, Notes, hears-logged}
 
 -- ---- no closing on a row that is not the farm's
 

@@ -18,11 +18,11 @@ use Rattle.model.specs.Rule.{Good}
 use Rattle.model.specs.Meter.{Log, took, filedBy, finishedIn, finishedOn, lostOn}
 use Rattle.model.proofs.Cases.{split}
 use Rattle.model.proofs.Rows.{row-set, row-same, row-map, open-in}
-use Rattle.model.proofs.Balance.{wrap-left, closing, fits-of, takes-balance}
-use Rattle.model.proofs.MeterFarm.{Laws}
-use Rattle.model.proofs.MeterFarmMove.{Talks, heard-open, heard-hand, Hears}
-use Rattle.model.proofs.MeterFarmStream.{Stands, stands-hand, Lands, takes-lands, lands-hand}
-use Rattle.model.proofs.MeterFarmLog.{allOn, sum-same, sum-one, Tied, tied-open, open-tied, tied-still, tied-older, Counted, Logged, counted-same, logged-same, after, filed-quiet, closed-counted, closed-tied, closed-logged}
+use Rattle.model.proofs.MeterBalance.{wrap-left, closing, fits-of, takes-balance}
+use Rattle.model.proofs.MeterDoings.{Laws}
+use Rattle.model.proofs.MeterMove.{Talks, heard-open, heard-hand, Hears}
+use Rattle.model.proofs.MeterStream.{Stands, stands-hand, Lands, takes-lands, lands-hand}
+use Rattle.model.proofs.MeterLog.{allOn, sum-same, sum-one, Tied, tied-open, open-tied, tied-still, tied-older, Counted, Logged, counted-same, logged-same, after, filed-quiet, closed-counted, closed-tied, closed-logged}
 
 -- ---- everything but the taking of bytes
 

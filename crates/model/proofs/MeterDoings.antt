@@ -34,7 +34,7 @@ use Rattle.model.specs.Move.{aged}
 use Rattle.model.specs.Meter.{isClose}
 use Rattle.model.proofs.Cases.{pick-case, split}
 use Rattle.model.proofs.Rows.{row-set}
-use Rattle.model.proofs.Balance.{hand-boundary, Clear, clear-below, clear-first, clear-rest, clear-set}
+use Rattle.model.proofs.MeterBalance.{hand-boundary, Clear, clear-below, clear-first, clear-rest, clear-set}
 
 -- ---- the property, and what keeps it
 

@@ -3,7 +3,7 @@
 use Prim.{Unit, tt}
 use Prim.Native.Nat.{ℕ, zero, suc, _+_, _≤_, _<_}
 use mathlib.Core.Path.{_≡_, refl, subst}
-use mathlib.Core.List.{List, [], _∷_}
+use mathlib.Core.List.{List, [], _∷_, map}
 use native.Mathlib.Omega.{arith}
 use lib.Dec.{eqb, leb, ltb}
 use lib.ListN.{set}
@@ -19,7 +19,7 @@ use Rattle.model.specs.Table.{Table, slot, goodTable, Call, Lent, leastO
 use Rattle.model.specs.History.{Made, fresh, stepOf, run}
 use Rattle.model.specs.Rule.{Good}
 use Rattle.model.proofs.Cases.{pick-case, unless-case}
-use Rattle.model.proofs.Split.{sound-of, good-of, FarmOk}
+use Rattle.model.proofs.RuleParts.{sound-of, good-of, FarmOk}
 use Rattle.model.proofs.Tidy.{TidyMove, tidy-new, tidy-move, tidy-ticked}
 use Rattle.model.proofs.SoundMain.{new-sound}
 use Rattle.model.proofs.SoundMove.{KeepsSound, move-keeps, ticked-sound}
@@ -126,6 +126,18 @@ unfolding startStep
 start-good s l t d e =
     lent-case (λ o. o ≡ did d → GoodAll s 0 (d .table)) s l _ (λ n q. absurd (let z : _≡_ {A = ℕ} 0 1 = cc in omega arith))
     (λ q. subst (λ (o : Outcome). GoodAll s 0 (tableOf t o)) q (renewed-good s 0 t)) e
+
+-- AN ACCEPTED START leaves a fresh table, over the rooms that were lent.
+pub renewed-fresh : (t : Table) → renewed t ≡ fresh (map (λ (h : Held). h .rooms) t)
+renewed-fresh [] = refl
+renewed-fresh (h ∷ t) = rw (renewed-fresh t)
+
+pub start-fresh : (s : List ℕ) (l : Lent) (t : Table) (d : Did) → startStep s l t ≡ did d → d .table ≡ fresh (map (λ (h : Held). h .rooms) t)
+unfolding startStep
+start-fresh s l t d e =
+    lent-case (λ o. o ≡ did d → d .table ≡ fresh (map (λ (h : Held). h .rooms) t)) s l _
+    (λ n q. absurd (let z : _≡_ {A = ℕ} 0 1 = cc in omega arith))
+    (λ q. subst (λ (o : Outcome). tableOf t o ≡ fresh (map (λ (h : Held). h .rooms) t)) q (renewed-fresh t)) e
 
 -- A FRESH TABLE keeps rule 4, and so does the table that a history from it leaves: refusal 4 never meets a history.
 pub fresh-good : (s : List ℕ) (i : ℕ) (rooms : List (List (List ℕ))) → GoodAll s i (fresh rooms)

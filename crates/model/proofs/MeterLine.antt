@@ -1,4 +1,5 @@
--- The same for what a call does to the line before it is settled: joining, leaving, marking; and for bytes and the other calls.
+-- A property that the single doings of a farm keep (MeterDoings) is kept by what a call does to the line before it is settled: joining,
+-- leaving, marking.
 -- Assumes nothing.
 use Prim.Native.Nat.{ℕ, _<_}
 use mathlib.Core.Path.{_≡_, refl, sym, subst, _∙_}
@@ -16,12 +17,12 @@ use Rattle.kinds.specs.declared.Item.{Item}
 use Rattle.model.specs.FarmSheet.{FarmSheet}
 use Rattle.model.specs.Row.{rowAt, inHand, activeAs, waitingRow, wanted}
 use Rattle.model.specs.Farm.{Farm, withRow, withLine, Done, quietly, andThen, closed, closedWhere}
-use Rattle.model.specs.Line.{accepted, asks, askedIf, asking, cleared, startedBy, started, advanced, answered, socketRules, joined, isEmpty, without, leftBy, left, isAsked, marked}
+use Rattle.model.specs.Line.{accepted, asks, askedIf, asking, cleared, startedBy, started, advanced, answered, socketRules, joined, isEmpty, without, leftBy, left, marked, answersCheck}
 use Rattle.model.proofs.Cases.{pick-case}
 use Rattle.model.proofs.Rows.{row-set}
 use Rattle.model.proofs.Seats.{each-keeps, closings-keep, closed-line}
-use Rattle.model.proofs.Balance.{next, clear-below, clear-first, clear-rest, clear-append, clear-without}
-use Rattle.model.proofs.MeterFarm.{Laws, Keeps, Then, then-quiet, Owned, closed-keeps, closings-keeps, put-keeps, lines-keeps, answered-keeps, started-keeps, advanced-keeps}
+use Rattle.model.proofs.MeterBalance.{next, clear-below, clear-first, clear-rest, clear-append, clear-without}
+use Rattle.model.proofs.MeterDoings.{Laws, Keeps, Then, then-quiet, Owned, closed-keeps, closings-keeps, put-keeps, lines-keeps, answered-keeps, started-keeps, advanced-keeps}
 
 -- ---- the line that things leave
 
@@ -122,5 +123,5 @@ module _ {own : FarmSheet} {Q : List Item → Farm → Type 0} (laws : Laws own 
   pub ready-marked : (is : List Item) (seat address : ℕ) (f : Farm) → Ready own Q is f → Ready own Q is (marked own seat address f)
   unfolding marked
   ready-marked is seat address f k =
-      pick-case (Ready own Q is) (both (activeAs address (rowAt (f .rows) seat)) (isAsked own f seat)) _ _
+      pick-case (Ready own Q is) (answersCheck own seat address f) _ _
       (λ _. record { keeps = lines-keeps laws is f (f .line) (f .clock) (set (f .marks) seat true) (k .keeps) }) (λ _. k)

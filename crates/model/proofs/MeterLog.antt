@@ -23,9 +23,9 @@ use Rattle.model.specs.Meter.{Log, filed, filedBy, isClose, total, sumTo
 use Rattle.model.proofs.Cases.{split}
 use Rattle.model.proofs.Rows.{row-other}
 use Rattle.model.proofs.Seats.{closed-rows}
-use Rattle.model.proofs.Balance.{wrap-left}
-use Rattle.model.proofs.MeterFarmCut.{whole-none}
-use Rattle.model.proofs.MeterFarmStream.{Stands, stands-hand, stands-rested, stands-still}
+use Rattle.model.proofs.MeterBalance.{wrap-left}
+use Rattle.model.proofs.MeterCut.{whole-none}
+use Rattle.model.proofs.MeterStream.{Stands, stands-hand, stands-rested, stands-still}
 
 -- ---- sums over seats
 
