@@ -1,4 +1,6 @@
 // The types by value that the core speaks of. Nothing here knows how any of them stands in bytes.
+ghost use mathlib.Core.Path.{_≡_};
+ghost use Rattle.kinds.specs.Clock.{clockOf, stepped};
 
 // A row over the whole sheet, 0 to 15 (255 where an entry belongs to none), and a farm, 0 to 3: two kinds, so that a row can't
 // index the farms.
@@ -9,6 +11,30 @@ pub struct FarmNo(pub u8);
 // Ticks of 10 ms.
 pub struct Clock {
     pub ticks: u16,
+}
+
+// "Limits of 001 in ticks: initial 200, alive check 50, general 30,000."
+impl Clock {
+    pub const INITIAL: u16 = 200;
+    pub const CHECK: u16 = 50;
+    pub const GENERAL: u16 = 30000;
+
+    pub fn fresh() -> Self
+        ensures { λ r. ⌜ r ≡ clockOf 0 ⌝ }
+    {
+        Self { ticks: 0 }
+    }
+
+    // One tick later. A clock at the end of its two bytes stays there; each limit is far below.
+    pub fn stepped(self) -> Self
+        ensures { λ r. ⌜ r ≡ stepped self ⌝ }
+    {
+        let n = self.ticks;
+        if n < u16::MAX {
+            return Self { ticks: n + 1 };
+        }
+        Self { ticks: n }
+    }
 }
 
 // A routing activation request: "all after the type are ignored", so nothing else of it is kept.

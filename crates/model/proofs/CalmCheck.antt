@@ -19,7 +19,8 @@ use Rattle.kinds.specs.declared.Decision.{Decision}
 use Rattle.kinds.specs.declared.Decision.the-variants.{Now, Ask}
 use Rattle.kinds.specs.declared.HeadVerdict.the-variants.{Pending}
 use Rattle.model.specs.FarmSheet.{FarmSheet}
-use Rattle.model.specs.Row.{clockOf, checkLimit, stepped, rowAt, isWaitingState, isWaiting, isActiveState, isActive, activeAsState, activeAs, wantedBy, wanted, olderState, heardState}
+use Rattle.kinds.specs.Clock.{clockOf, checkLimit, stepped}
+use Rattle.model.specs.Row.{rowAt, isWaitingState, isWaiting, isActiveState, isActive, activeAsState, activeAs, wantedBy, wanted, olderState, heardState}
 use Rattle.model.specs.Farm.{Farm, seatCount}
 use Rattle.model.specs.Line.{askedBy, isAsked, isMarked, isSilent, allAnswered, verdictBy, headVerdict, settle}
 use Rattle.model.specs.Rule.{times, HeadKeeps, Good}

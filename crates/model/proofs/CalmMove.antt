@@ -26,7 +26,8 @@ use Rattle.wire.specs.declared.payload.Ends.{Ends}
 use Rattle.wire.specs.Header.{closes}
 use Rattle.wire.specs.Payload.{requestIn, addressIn, endsIn}
 use Rattle.model.specs.FarmSheet.{FarmSheet, TargetIs, stranger, unreachable, reachable}
-use Rattle.model.specs.Row.{clockOf, freeRow, freshRow, activeRow, rowAt, isFreeState, isFree, isOpen, isWaitingState, isWaiting, isActiveState, isActive, activeAsState, activeAs}
+use Rattle.kinds.specs.Clock.{clockOf}
+use Rattle.model.specs.Row.{freeRow, freshRow, activeRow, rowAt, isFreeState, isFree, isOpen, isWaitingState, isWaiting, isActiveState, isActive, activeAsState, activeAs}
 use Rattle.model.specs.Stream.{Event, inputEnded, wrong, finished, skipped, Taken}
 use Rattle.model.specs.Farm.{Farm, withRow, withLine, Done, andThen, closed, closedWhere}
 use Rattle.model.specs.Line.{accepted, byHolder, socketRules, byState, decide, answered, left, cleared}

@@ -29,7 +29,8 @@ use Rattle.kinds.specs.declared.HeadVerdict.{HeadVerdict}
 use Rattle.kinds.specs.declared.HeadVerdict.the-variants.{Pending, Answer, RunOut}
 use Rattle.wire.specs.Header.{headerSize, headerAt, verdictOf}
 use Rattle.model.specs.FarmSheet.{FarmSheet}
-use Rattle.model.specs.Row.{checkLimit, boundary, freeRow, rowAt, isFree, isOpen, isWaiting, isActive, activeAs, activeAsState, atLimit}
+use Rattle.kinds.specs.Clock.{checkLimit}
+use Rattle.model.specs.Row.{boundary, freeRow, rowAt, isFree, isOpen, isWaiting, isActive, activeAs, activeAsState, atLimit}
 use Rattle.model.specs.Farm.{Farm, seatCount}
 use Rattle.model.specs.Line.{isMarked, isAsked, headVerdict}
 use Rattle.model.specs.Rule.{times, PossibleAt, TidyAt, Tidy, RowKeeps, HeadKeeps, Good}

@@ -23,7 +23,8 @@ use Rattle.kinds.specs.declared.Decision.the-variants.{Now, Ask}
 use Rattle.kinds.specs.declared.HeadVerdict.{HeadVerdict}
 use Rattle.kinds.specs.declared.HeadVerdict.the-variants.{Pending, Answer, RunOut}
 use Rattle.model.specs.FarmSheet.{FarmSheet}
-use Rattle.model.specs.Row.{checkLimit, freeRow, rowAt, isActive, activeAs, wanted}
+use Rattle.kinds.specs.Clock.{checkLimit}
+use Rattle.model.specs.Row.{freeRow, rowAt, isActive, activeAs, wanted}
 use Rattle.model.specs.Farm.{Farm, seatCount, newFarm, noMarks, withLine, Done, quietly, andThen, closedWhere}
 use Rattle.model.specs.Line.{accepted, byHolder, socketRules, askedBy, isAsked, asks, isSilent, allAnswered, askedIf, asking, cleared, startedBy, started, advanced, answered, isMarked, verdictBy, headVerdict, serve, settleLine, settle}
 use Rattle.model.specs.Rule.{HeadKeeps}

@@ -20,7 +20,8 @@ use Rattle.wire.specs.declared.payload.Ends.{Ends}
 use Rattle.wire.specs.Header.{closes}
 use Rattle.wire.specs.Payload.{requestIn, addressIn, endsIn}
 use Rattle.model.specs.FarmSheet.{FarmSheet, TargetIs, stranger, unreachable, reachable}
-use Rattle.model.specs.Row.{generalLimit, clockOf, waitingRow, activeRow, rowAt, isOpenState, isOpen, isWaitingState, isWaiting, isActiveState, isActive, activeAsState, activeAs, atLimitState, heardState}
+use Rattle.kinds.specs.Clock.{generalLimit, clockOf}
+use Rattle.model.specs.Row.{waitingRow, activeRow, rowAt, isOpenState, isOpen, isWaitingState, isWaiting, isActiveState, isActive, activeAsState, activeAs, atLimitState, heardState}
 use Rattle.model.specs.Stream.{Event, inputEnded, wrong, finished, skipped, Taken, streamOf}
 use Rattle.model.specs.Farm.{Farm, Done, andThen}
 use Rattle.model.specs.Line.{accepted, byState, socketRules, decide, answered, isEmpty, joined, isAsked, marked}

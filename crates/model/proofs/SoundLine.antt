@@ -21,7 +21,8 @@ use Rattle.kinds.specs.declared.Decision.the-variants.{Now, Ask}
 use Rattle.kinds.specs.declared.HeadVerdict.{HeadVerdict}
 use Rattle.kinds.specs.declared.HeadVerdict.the-variants.{Pending, Answer, RunOut}
 use Rattle.model.specs.FarmSheet.{FarmSheet}
-use Rattle.model.specs.Row.{checkLimit, freeRow, activeRow, rowAt, isOpen, isWaiting, isActive, activeAs, wanted}
+use Rattle.kinds.specs.Clock.{checkLimit}
+use Rattle.model.specs.Row.{freeRow, activeRow, rowAt, isOpen, isWaiting, isActive, activeAs, wanted}
 use Rattle.model.specs.Farm.{Farm, seatCount, noMarks, withLine, Done, andThen, closed, closedWhere}
 use Rattle.model.specs.Line.{accepted, byHolder, socketRules, asks, isMarked, isSilent, allAnswered, refusalOf, askedIf, asking, cleared, startedBy, started, advanced, answered, verdictBy, headVerdict, serve, settleLine, settle}
 use Rattle.model.proofs.Cases.{pick-case, split}

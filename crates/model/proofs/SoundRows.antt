@@ -14,7 +14,8 @@ use Rattle.kinds.specs.declared.RowState.{RowState}
 use Rattle.kinds.specs.declared.RowState.the-variants.{Free, Fresh, Waiting, Active}
 use Rattle.kinds.specs.declared.Row.{Row}
 use Rattle.model.specs.FarmSheet.{FarmSheet}
-use Rattle.model.specs.Row.{initialLimit, generalLimit, freeRow, freshRow, activeRow, rowAt, isOpenState, isOpen, isWaitingState, isWaiting, isActiveState, isActive, activeAsState, activeAs, wantedBy, atLimitState, atLimit}
+use Rattle.kinds.specs.Clock.{initialLimit, generalLimit}
+use Rattle.model.specs.Row.{freeRow, freshRow, activeRow, rowAt, isOpenState, isOpen, isWaitingState, isWaiting, isActiveState, isActive, activeAsState, activeAs, wantedBy, atLimitState, atLimit}
 use Rattle.model.specs.Farm.{Farm, seatCount}
 use Rattle.model.specs.Rule.{times, PossibleAt, RowKeeps}
 use Rattle.model.proofs.Cases.{split}

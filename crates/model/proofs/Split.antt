@@ -8,7 +8,8 @@ use lib.ListN.{length}
 use Rattle.octets.specs.Choice.{one}
 use Rattle.octets.specs.Search.{countIf}
 use Rattle.model.specs.FarmSheet.{FarmSheet}
-use Rattle.model.specs.Row.{checkLimit, rowAt, isOpen, isWaiting, isActive, activeAs, atLimit}
+use Rattle.kinds.specs.Clock.{checkLimit}
+use Rattle.model.specs.Row.{rowAt, isOpen, isWaiting, isActive, activeAs, atLimit}
 use Rattle.model.specs.Farm.{Farm, seatCount}
 use Rattle.model.specs.Line.{isMarked, isAsked}
 use Rattle.model.specs.Rule.{times, PossibleAt, RowKeeps, HeadKeeps, Tidy, Good}

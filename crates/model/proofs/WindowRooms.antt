@@ -19,7 +19,8 @@ use Rattle.kinds.specs.declared.RowState.{RowState}
 use Rattle.kinds.specs.declared.RowState.the-variants.{Free, Fresh, Waiting, Active}
 use Rattle.kinds.specs.declared.Row.{Row}
 use Rattle.model.specs.FarmSheet.{FarmSheet, slotSheet}
-use Rattle.model.specs.Row.{clockOf, rowOf, rowAt, isOpen, isOpenState, activeAs, older, isFree}
+use Rattle.kinds.specs.Clock.{clockOf}
+use Rattle.model.specs.Row.{rowOf, rowAt, isOpen, isOpenState, activeAs, older, isFree}
 use Rattle.model.specs.Stream.{Event, inputEnded, wrong, finished, skipped, streamOf, Taken, taken, endedBy}
 use Rattle.model.specs.Farm.{Farm, Done, andThen, withRow}
 use Rattle.model.specs.Line.{settle}

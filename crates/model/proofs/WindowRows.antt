@@ -21,7 +21,8 @@ use Rattle.wire.specs.declared.payload.Ends.{Ends}
 use Rattle.wire.specs.Header.{closes, codeOf}
 use Rattle.wire.specs.Payload.{requestIn, addressIn, endsIn}
 use Rattle.model.specs.FarmSheet.{FarmSheet, TargetIs, stranger, unreachable, reachable}
-use Rattle.model.specs.Row.{clockOf, rowOf, rowAt, wanted, waitingRow, activeAs, isOpen, atLimit}
+use Rattle.kinds.specs.Clock.{clockOf}
+use Rattle.model.specs.Row.{rowOf, rowAt, wanted, waitingRow, activeAs, isOpen, atLimit}
 use Rattle.model.specs.Stream.{Event, inputEnded, wrong, finished, skipped}
 use Rattle.model.specs.Farm.{Farm, Done, does, quietly, withRow, withLine, says, closed, closedWhere}
 use Rattle.model.specs.Line.{accepted, socketRules, decide, asks, askedIf, asking, cleared, startedBy, started, advanced, answered, isSilent, isAsked, headVerdict, serve, settleLine, settle, isEmpty, joined, without, leftBy, left, marked}

@@ -14,7 +14,8 @@ use Rattle.kinds.specs.declared.Reply.{Reply}
 use Rattle.kinds.specs.declared.Reply.the-variants.{Close}
 use Rattle.wire.specs.Header.{ourVersion}
 use Rattle.model.specs.FarmSheet.{FarmSheet}
-use Rattle.model.specs.Row.{clockOf, freeRow, rowAt, inHand}
+use Rattle.kinds.specs.Clock.{clockOf}
+use Rattle.model.specs.Row.{freeRow, rowAt, inHand}
 
 -- the rows that a farm has room for ("at most nine"); a farm of quota q owns the first q + 1
 unfoldable pub seatCount : ℕ

@@ -22,7 +22,8 @@ use Rattle.kinds.specs.declared.HeadVerdict.{HeadVerdict}
 use Rattle.kinds.specs.declared.HeadVerdict.the-variants.{Pending, Answer, RunOut}
 use Rattle.kinds.specs.declared.Reply.the-variants.{Activation, AliveCheck}
 use Rattle.model.specs.FarmSheet.{FarmSheet}
-use Rattle.model.specs.Row.{clockOf, checkLimit, rowAt, waitingRow, activeRow, isActive, activeAs, wanted}
+use Rattle.kinds.specs.Clock.{clockOf, checkLimit}
+use Rattle.model.specs.Row.{rowAt, waitingRow, activeRow, isActive, activeAs, wanted}
 use Rattle.model.specs.Farm.{Farm, seatCount, noMarks, withRow, withLine, withClock, withMarks, Done, does, quietly, andThen, eachSeat, says, closed, closedWhere}
 
 -- ---- the decision

@@ -20,7 +20,8 @@ use Rattle.kinds.specs.declared.Reply.the-variants.{Message}
 use Rattle.wire.specs.Header.{ourVersion}
 use Rattle.datagram.specs.Datagram.{answerTo}
 use Rattle.model.specs.FarmSheet.{FarmSheet, TargetIs, stranger, unreachable, reachable}
-use Rattle.model.specs.Row.{rowAt, freshRow, isFree, isOpen, activeAs, older, atLimit, stepped}
+use Rattle.kinds.specs.Clock.{stepped}
+use Rattle.model.specs.Row.{rowAt, freshRow, isFree, isOpen, activeAs, older, atLimit}
 use Rattle.model.specs.Stream.{Taken}
 use Rattle.model.specs.Farm.{Farm, withRow, withRows, withClock, withLine, Done, does, quietly, andThen, says, closed, closedWhere}
 use Rattle.model.specs.Line.{settle, left, cleared}

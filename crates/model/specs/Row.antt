@@ -3,39 +3,17 @@
 use Prim.Native.Nat.{ℕ, _+_}
 use mathlib.Core.Bool.{Bool, true, false}
 use mathlib.Core.List.{List}
-use lib.Dec.{eqb, leb, ltb}
+use lib.Dec.{eqb, leb}
 use lib.ListN.{getD, replicate}
 use Rattle.octets.specs.Choice.{pick}
 use Rattle.wire.specs.Header.{headerSize}
-use Rattle.kinds.specs.declared.Clock.{Clock}
+use Rattle.kinds.specs.Clock.{clockOf, initialLimit, generalLimit, stepped}
 use Rattle.kinds.specs.declared.Request.{Request}
 use Rattle.kinds.specs.declared.RowState.{RowState}
 use Rattle.kinds.specs.declared.RowState.the-variants.{Free, Fresh, Waiting, Active}
 use Rattle.kinds.specs.declared.Place.{Place}
 use Rattle.kinds.specs.declared.Place.the-variants.{Header, Reading, Skipping}
 use Rattle.kinds.specs.declared.Row.{Row}
-
--- ---- clocks: "Limits of 001 in ticks: initial 200, alive check 50, general 30,000."
-
-abbrev pub clockOf : ℕ → Clock
-clockOf n = record { ticks = n }
-
-unfoldable pub initialLimit : ℕ
-initialLimit = 200
-
-unfoldable pub checkLimit : ℕ
-checkLimit = 50
-
-unfoldable pub generalLimit : ℕ
-generalLimit = 30000
-
--- the most that a clock's two bytes hold; it is never reached, for each limit is below it
-unfoldable pub mostTicks : ℕ
-mostTicks = 65535
-
--- one tick later
-unfoldable pub stepped : Clock → Clock
-stepped c = pick (ltb (c .ticks) mostTicks) (clockOf (c .ticks + 1)) c
 
 -- ---- the place in the byte stream
 

@@ -22,7 +22,8 @@ use Rattle.kinds.specs.declared.Verdict.the-variants.{Passes, Wrong}
 use Rattle.kinds.specs.declared.HeadVerdict.the-variants.{Pending}
 use Rattle.wire.specs.Header.{headerSize, headerAt, verdictOf}
 use Rattle.model.specs.FarmSheet.{FarmSheet}
-use Rattle.model.specs.Row.{checkLimit, boundary, noHead, rowAt, isFree, isOpen, isWaiting, isActive, activeAs, atLimit}
+use Rattle.kinds.specs.Clock.{checkLimit}
+use Rattle.model.specs.Row.{boundary, noHead, rowAt, isFree, isOpen, isWaiting, isActive, activeAs, atLimit}
 use Rattle.model.specs.Farm.{Farm, seatCount}
 use Rattle.model.specs.Line.{isMarked, isAsked, headVerdict}
 

@@ -21,7 +21,8 @@ use Rattle.kinds.specs.declared.HeadVerdict.{HeadVerdict}
 use Rattle.kinds.specs.declared.HeadVerdict.the-variants.{Pending, Answer, RunOut}
 use Rattle.wire.specs.Header.{headerSize, headerAt, verdictOf}
 use Rattle.model.specs.FarmSheet.{FarmSheet, slotSheet}
-use Rattle.model.specs.Row.{checkLimit, rowAt, isFree, isOpen, isWaiting, isActive, activeAs, atLimit}
+use Rattle.kinds.specs.Clock.{checkLimit}
+use Rattle.model.specs.Row.{rowAt, isFree, isOpen, isWaiting, isActive, activeAs, atLimit}
 use Rattle.model.specs.Farm.{Farm, seatCount}
 use Rattle.model.specs.Line.{isMarked, isAsked, headVerdict}
 use Rattle.model.specs.Rule.{times}

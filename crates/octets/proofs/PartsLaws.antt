@@ -6,8 +6,8 @@ use mathlib.Core.List.{List, [], _∷_, _++_, append-assoc}
 use Prim.Native.Nat.{ℕ, zero, suc, _+_, _*_, _-_, _≤_, _<_}
 use native.Mathlib.Omega.{arith}
 use native.Mathlib.Nat.{suc-mul}
-use lib.ListN.{length, getD, take, drop, set, length-take, length-drop, take-append-drop}
-use lib.Seq.{take-at, drop-at, take-append-le, drop-append-le, drop-drop, length-take-le, take-add, getD-take, getD-drop}
+use lib.ListN.{length, getD, take, drop, set, length-append, length-take, length-drop, take-append-drop}
+use lib.Seq.{take-at, drop-at, take-append-le, drop-append-le, drop-drop, take-take, length-take-le, take-add, getD-take, getD-drop}
 use Rattle.octets.specs.Put.{putAt}
 use Rattle.octets.proofs.PutLaws.{drop-putAt}
 use Rattle.octets.specs.Parts.{part, parts, joined}
@@ -120,3 +120,29 @@ part-short s a n = omega (arith, length-take n (drop a s))
 -- a part between two places, as a range lends it
 pub part-between : (s : List ℕ) (a e n : ℕ) → e ≡ a + n → take (e - a) (drop a s) ≡ part s a n
 part-between s a e n h = let k : e - a ≡ n = omega arith in ap (λ (m : ℕ). take m (drop a s)) k
+
+-- a put within a part is a put of the part
+pub narrow : (b : List ℕ) (a m k : ℕ) (ys : List ℕ) → k + length ys ≤ m → a + m ≤ length b
+    → putAt b (a + k) ys ≡ putAt b a (putAt (part b a m) k ys)
+unfolding putAt
+narrow b a m k ys h g =
+    let p : List ℕ = part b a m in
+    let lp : length (part b a m) ≡ m = length-take-le m (drop a b) (omega (arith, length-drop a b)) in
+    let one : take (a + k) b ≡ take a b ++ take k p = take-add a k b ∙ ap (λ (l : List ℕ). take a b ++ l) (sym (take-take k m (drop a b) (omega arith))) in
+    let e1 : a + k + length ys ≡ a + (k + length ys) = omega arith in
+    let two : drop (a + k + length ys) b ≡ drop (k + length ys) p ++ drop (a + m) b =
+    ap (λ (n : ℕ). drop n b) e1 ∙ sym (drop-drop (k + length ys) a b)
+    ∙ ap (drop (k + length ys)) (sym (take-append-drop m (drop a b)))
+    ∙ drop-append-le (k + length ys) (part b a m) (drop m (drop a b)) (omega (arith, lp))
+    ∙ ap (λ (l : List ℕ). drop (k + length ys) p ++ l) (drop-drop m a b)
+    in
+    let mid : List ℕ = take k p ++ ys ++ drop (k + length ys) p in
+    let lm : length (take k p ++ ys ++ drop (k + length ys) p) ≡ m =
+    omega (arith, length-append (take k p ++ ys) (drop (k + length ys) p), length-append (take k p) ys, length-take-le k p (omega (arith, lp)), length-drop (k + length ys) p, lp)
+    in
+    ap (λ (l : List ℕ). l ++ ys ++ drop (a + k + length ys) b) one
+    ∙ ap (λ (l : List ℕ). take a b ++ take k p ++ ys ++ l) two
+    ∙ sym (append-assoc (take a b ++ take k p ++ ys) (drop (k + length ys) p) (drop (a + m) b))
+    ∙ ap (λ (l : List ℕ). l ++ drop (k + length ys) p ++ drop (a + m) b) (append-assoc (take a b) (take k p) ys)
+    ∙ ap (λ (l : List ℕ). l ++ drop (a + m) b) (append-assoc (take a b) (take k p ++ ys) (drop (k + length ys) p))
+    ∙ ap (λ (n : ℕ). take a b ++ mid ++ drop (a + n) b) (sym lm)

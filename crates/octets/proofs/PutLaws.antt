@@ -3,11 +3,12 @@
 -- Assumes nothing.
 use mathlib.Core.Path.{_≡_, sym, ap, _∙_}
 use mathlib.Core.List.{List, [], _∷_, _++_, append-assoc}
-use Prim.Native.Nat.{ℕ, _+_, _/_, _%_, _≤_, _<_}
+use Prim.Native.Nat.{ℕ, suc, _+_, _*_, _/_, _%_, _≤_, _<_}
 use native.Mathlib.Nat.{add-assoc, add-zero}
+use native.Mathlib.Numerals.{add-one}
 use native.Mathlib.Omega.{arith}
-use lib.ListN.{length, getD, take, drop, length-append, length-drop, List·getD-append}
-use lib.Seq.{take-at, drop-at, take-append-le, take-take, getD-append-add, drop-drop, length-take-le, paste-zero}
+use lib.ListN.{length, getD, take, drop, set, length-append, length-take, length-drop, List·getD-append}
+use lib.Seq.{take-at, drop-at, take-append-le, take-take, getD-append-add, drop-drop, length-take-le, paste-zero, set-split, append-snoc}
 use Rattle.octets.specs.Numbers.{u16At, u32At, be16, be32}
 use Rattle.octets.specs.Put.{putAt}
 
@@ -111,3 +112,16 @@ putAt-none out s = paste-zero out s []
 pub put-start : (out bs : List ℕ) → putAt out 0 bs ≡ bs ++ drop (length bs) out
 unfolding putAt
 put-start out bs = let z : 0 + length bs ≡ length bs = omega arith in ap (λ (n : ℕ). bs ++ drop n out) z
+
+-- one element stored is a put of one
+pub set-putAt : (out : List ℕ) (at x : ℕ) → at < length out → set out at x ≡ putAt out at (x ∷ [])
+unfolding putAt
+set-putAt out at x h =
+    set-split out at x h ∙ sym (append-snoc (take at out) x (drop (suc at) out)) ∙ ap (λ (n : ℕ). take at out ++ (x ∷ []) ++ drop n out) (sym (add-one at))
+
+-- one element stored behind what was put
+pub set-more : (out₀ : List ℕ) (at : ℕ) (bs out : List ℕ) (n x : ℕ) → out ≡ putAt out₀ at bs → n ≡ at + length bs → n < length out₀
+    → set out n x ≡ putAt out₀ at (bs ++ (x ∷ []))
+set-more out₀ at bs out n x e k h =
+    put-more out₀ at bs out n (x ∷ []) (set out n x) e k (omega arith)
+    (set-putAt out n x (omega (arith, ap length e, length-putAt out₀ at bs (omega arith))))

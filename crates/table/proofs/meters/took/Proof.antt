@@ -1,0 +1,14 @@
+-- `meters::took` meets its contract.
+-- Assumes nothing.
+use borrow.Author.Needs.{needs}
+use Rattle.table.proofs.meters.took.Statement.{statement}
+use Rattle.table.proofs.meters.took.Tie as tie
+
+more-requires : tie.Need-more-requires
+more-requires c κs = search needs
+
+returns : tie.Need-returns
+returns c = cc
+
+pub took-spec : {M : Type 1} → statement M
+took-spec = tie.close (tie.spec more-requires returns)

@@ -1,0 +1,57 @@
+-- Where everything of a farm's block stands. No other crate knows a place of it.
+-- Assumes nothing: these are definitions.
+use Prim.Native.Nat.{ℕ, _+_, _*_}
+
+-- "its at most nine rows": the seats that a block has room for
+abbrev pub seats : ℕ
+seats = 9
+
+-- ---- a block: meters, line (a count, then the seats), clock, marks, rows
+
+abbrev pub metersAt : ℕ
+metersAt = 0
+
+abbrev pub metersSize : ℕ
+metersSize = 12
+
+abbrev pub lineAt : ℕ
+lineAt = 12
+
+-- the first of the line's seats
+abbrev pub seatsAt : ℕ
+seatsAt = 13
+
+abbrev pub lineSize : ℕ
+lineSize = 1 + seats
+
+abbrev pub clockAt : ℕ
+clockAt = 22
+
+abbrev pub clockSize : ℕ
+clockSize = 2
+
+abbrev pub marksAt : ℕ
+marksAt = 24
+
+abbrev pub rowsAt : ℕ
+rowsAt = 33
+
+abbrev pub rowSize : ℕ
+rowSize = 20
+
+abbrev pub blockSize : ℕ
+blockSize = rowsAt + seats * rowSize
+
+-- ---- within a row: state (tag, request type, address, count), place (tag, count), the header's bytes, one spare byte
+
+abbrev pub ticksIn : ℕ
+ticksIn = 4
+
+abbrev pub placeIn : ℕ
+placeIn = 6
+
+abbrev pub headIn : ℕ
+headIn = 11
+
+abbrev pub headSize : ℕ
+headSize = 8
