@@ -31,4 +31,14 @@ pub mod Neighbour
 pub mod TableRefuses
 pub mod Refusals
 pub mod Address
+pub mod Rank
+pub mod Due
+pub mod DueCalls
+pub mod DueTable
+pub mod Join
+pub mod Bound
+pub mod DueAnswer
+pub mod DueMoment
+pub mod DueTold
+pub mod Tight
 pub mod Try

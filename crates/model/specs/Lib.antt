@@ -9,3 +9,4 @@ pub mod Rule
 pub mod RuleTest
 pub mod Table
 pub mod History
+pub mod Words
