@@ -20,7 +20,8 @@ use Rattle.sheet.specs.Sheet.{farmNo}
 use Rattle.sheet.specs.Rows.{ownerOf}
 use Rattle.sheet.specs.Test.{goodSheet}
 use Rattle.model.specs.FarmSheet.{FarmSheet, slotSheet}
-use Rattle.model.specs.Row.{checkLimit, rowAt, isOpenState, isActiveState, isOpen}
+use Rattle.kinds.specs.Clock.{checkLimit}
+use Rattle.model.specs.Row.{rowAt, isOpenState, isActiveState, isOpen}
 use Rattle.model.specs.Stream.{Taken}
 use Rattle.model.specs.Farm.{newFarm, seatCount}
 use Rattle.model.specs.Move.{bytes, Held, bytesBy, tookBytes, move}

@@ -25,7 +25,8 @@ use Rattle.kinds.specs.declared.Decision.the-variants.{Now, Ask}
 use Rattle.kinds.specs.declared.HeadVerdict.{HeadVerdict}
 use Rattle.kinds.specs.declared.HeadVerdict.the-variants.{Pending, Answer, RunOut}
 use Rattle.model.specs.FarmSheet.{FarmSheet}
-use Rattle.model.specs.Row.{checkLimit, freeRow, rowAt, wantedBy, isActiveState, activeAsState, isActive, activeAs, wanted, activeRow}
+use Rattle.kinds.specs.Clock.{checkLimit}
+use Rattle.model.specs.Row.{freeRow, rowAt, wantedBy, isActiveState, activeAsState, isActive, activeAs, wanted, activeRow}
 use Rattle.model.specs.Farm.{Farm, Done, andThen, closedWhere}
 use Rattle.model.specs.Line.{accepted, byHolder, socketRules, asks as asksIt, isSilent, allAnswered, refusalOf, advanced, answered, verdictBy, headVerdict, serve, settleLine, settle}
 use Rattle.model.specs.Words.{Stands, first, behind, Answered, answers}

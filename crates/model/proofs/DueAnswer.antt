@@ -12,7 +12,8 @@ use Rattle.kinds.specs.declared.Decision.the-variants.{Now, Ask}
 use Rattle.kinds.specs.declared.HeadVerdict.{HeadVerdict}
 use Rattle.kinds.specs.declared.HeadVerdict.the-variants.{Pending, Answer, RunOut}
 use Rattle.model.specs.FarmSheet.{FarmSheet}
-use Rattle.model.specs.Row.{checkLimit, rowAt, wanted}
+use Rattle.kinds.specs.Clock.{checkLimit}
+use Rattle.model.specs.Row.{rowAt, wanted}
 use Rattle.model.specs.Farm.{Farm, Done, andThen, says, closed, closedWhere}
 use Rattle.model.specs.Line.{accepted, socketRules, isSilent, allAnswered, refusalOf, answered, advanced, verdictBy, headVerdict, serve}
 use Rattle.model.specs.Words.{Because, needsNone, allDid, ranOut}

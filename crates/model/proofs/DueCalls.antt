@@ -27,7 +27,8 @@ use Rattle.kinds.specs.declared.Decision.the-variants.{Now, Ask}
 use Rattle.wire.specs.declared.payload.Ends.{Ends as Both}
 use Rattle.wire.specs.Header.{closes}
 use Rattle.model.specs.FarmSheet.{FarmSheet, TargetIs, stranger, unreachable, reachable}
-use Rattle.model.specs.Row.{checkLimit, mostTicks, stepped, clockOf, rowAt, freeRow, waitingRow, activeAs, isOpen, isFreeState, isFree, older, olderState, atLimitState, atLimit, freshRow}
+use Rattle.kinds.specs.Clock.{checkLimit, mostTicks, stepped, clockOf}
+use Rattle.model.specs.Row.{rowAt, freeRow, waitingRow, activeAs, isOpen, isFreeState, isFree, older, olderState, atLimitState, atLimit, freshRow}
 use Rattle.model.specs.Stream.{Event, inputEnded, wrong, finished, skipped, Taken}
 use Rattle.model.specs.Farm.{Farm, Done, does, quietly, andThen, withRow, closed, closedWhere}
 use Rattle.model.specs.Line.{accepted, decide, answered, joined, isEmpty, without, leftBy, left, isAsked, marked, settle}

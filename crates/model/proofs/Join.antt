@@ -20,7 +20,8 @@ use Rattle.kinds.specs.declared.Decision.the-variants.{Now, Ask}
 use Rattle.kinds.specs.declared.HeadVerdict.the-variants.{Pending}
 use Rattle.wire.specs.Payload.{requestIn}
 use Rattle.model.specs.FarmSheet.{FarmSheet}
-use Rattle.model.specs.Row.{checkLimit, rowAt, waitingRow, isOpenState, isWaitingState, isActiveState, activeAsState, isActive, activeAs, wanted, heardState}
+use Rattle.kinds.specs.Clock.{checkLimit}
+use Rattle.model.specs.Row.{rowAt, waitingRow, isOpenState, isWaitingState, isActiveState, activeAsState, isActive, activeAs, wanted, heardState}
 use Rattle.model.specs.Stream.{finished, Taken}
 use Rattle.model.specs.Farm.{Farm, Done, quietly, andThen, seatCount, withRow, withLine}
 use Rattle.model.specs.Line.{accepted, byState, socketRules, decide, asks, advanced, headVerdict, settleLine, settle, isEmpty, joined}

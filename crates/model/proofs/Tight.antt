@@ -20,7 +20,8 @@ use Rattle.sheet.specs.Find.{lookup}
 use Rattle.sheet.specs.Rows.{ownerFrom}
 use Rattle.sheet.specs.Test.{goodSheet, everyBelow}
 use Rattle.model.specs.FarmSheet.{farmSheet, noFarm, slotSheet}
-use Rattle.model.specs.Row.{initialLimit, checkLimit, generalLimit, mostTicks, stepped, noHead}
+use Rattle.kinds.specs.Clock.{initialLimit, checkLimit, generalLimit, mostTicks, stepped}
+use Rattle.model.specs.Row.{noHead}
 use Rattle.model.specs.Stream.{feed, takes}
 use Rattle.model.specs.Farm.{seatCount, newFarm, andThen, eachSeat, closed, closedIf}
 use Rattle.model.specs.Line.{accepted, socketRules, decide, allAnswered, askedIf, started, advanced, answered, headVerdict, settleLine, joined, left, isAsked, marked}

@@ -19,7 +19,8 @@ use Rattle.sheet.specs.declared.rows.Owner.the-variants.{Seat}
 use Rattle.sheet.specs.Sheet.{farmNo}
 use Rattle.sheet.specs.Rows.{ownerOf}
 use Rattle.model.specs.FarmSheet.{FarmSheet, slotSheet}
-use Rattle.model.specs.Row.{checkLimit, rowAt, wanted}
+use Rattle.kinds.specs.Clock.{checkLimit}
+use Rattle.model.specs.Row.{rowAt, wanted}
 use Rattle.model.specs.Stream.{finished, Taken}
 use Rattle.model.specs.Farm.{Farm, quietly, andThen, says, closed}
 use Rattle.model.specs.Line.{accepted, socketRules, decide, allAnswered, refusalOf, headVerdict, serve, left}
