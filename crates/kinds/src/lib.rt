@@ -8,6 +8,13 @@ pub struct RowNo(pub u8);
 
 pub struct FarmNo(pub u8);
 
+// What the rules of a farm's line look at of its sheet: its first row over the whole sheet, its quota, its entity address.
+pub struct Site {
+    pub first: u8,
+    pub quota: u8,
+    pub entity: u16,
+}
+
 // Ticks of 10 ms.
 pub struct Clock {
     pub ticks: u16,
@@ -16,7 +23,9 @@ pub struct Clock {
 // "Limits of 001 in ticks: initial 200, alive check 50, general 30,000."
 impl Clock {
     pub const INITIAL: u16 = 200;
+
     pub const CHECK: u16 = 50;
+
     pub const GENERAL: u16 = 30000;
 
     pub fn fresh() -> Self
