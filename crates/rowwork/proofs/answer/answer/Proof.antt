@@ -5,7 +5,7 @@ use Rattle.kinds.specs.declared.Clock.{Clock}
 use Rattle.model.specs.FarmSheet.{FarmSheet}
 use Rattle.model.specs.Row.{rowOf}
 use Rattle.model.specs.Farm.{Farm, withRow, closed}
-use Rattle.model.specs.Line.{accepted, left}
+use Rattle.model.specs.Line.{accepted}
 use Rattle.table.specs.Block.{farmOf}
 use Rattle.rowwork.specs.Did.{siteSheet}
 use Rattle.rowwork.proofs.DidLaws.{did-same, did-says, did-then}

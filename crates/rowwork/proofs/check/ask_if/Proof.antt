@@ -2,7 +2,6 @@
 -- Assumes nothing.
 use mathlib.Core.Path.{refl, sym, _∙_}
 use Rattle.model.specs.Farm.{Farm}
-use Rattle.model.specs.Line.{asks, left}
 use Rattle.table.specs.Block.{farmOf}
 use Rattle.rowwork.specs.Did.{siteSheet}
 use Rattle.rowwork.proofs.DidLaws.{did-same, did-nothing, did-says}

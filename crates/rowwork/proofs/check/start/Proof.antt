@@ -7,7 +7,7 @@ use Rattle.kinds.specs.declared.Decision.{Decision}
 use Rattle.model.specs.FarmSheet.{FarmSheet}
 use Rattle.model.specs.Row.{rowAt, wanted}
 use Rattle.model.specs.Farm.{Farm}
-use Rattle.model.specs.Line.{socketRules, asking, cleared, left}
+use Rattle.model.specs.Line.{socketRules, asking, cleared}
 use Rattle.table.specs.Block.{farmOf}
 use Rattle.rowwork.specs.Did.{siteSheet}
 use Rattle.rowwork.proofs.DidLaws.{did-same, did-quietly}

@@ -1,7 +1,6 @@
 -- `close::close_if` meets its contract.
 -- Assumes nothing.
 use mathlib.Core.Path.{sym, _∙_}
-use Rattle.model.specs.Line.{left}
 use Rattle.table.specs.Block.{farmOf}
 use Rattle.rowwork.specs.Did.{siteSheet}
 use Rattle.rowwork.specs.Steps.{closesBy}

@@ -4,7 +4,6 @@ use mathlib.Core.Path.{sym, _∙_}
 use Prim.Native.Nat.{_-_, _≤_}
 use native.Mathlib.Omega.{arith}
 use Rattle.model.specs.Farm.{seatCount, closedIf}
-use Rattle.model.specs.Line.{left}
 use Rattle.model.proofs.Seats.{seatsTo}
 use Rattle.table.specs.Block.{farmOf}
 use Rattle.rowwork.specs.Did.{siteSheet, Did}

@@ -8,7 +8,7 @@ use Rattle.octets.specs.Choice.{pick}
 use Rattle.octets.specs.Fold.{upTo}
 use Rattle.model.specs.Row.{rowAt}
 use Rattle.model.specs.Farm.{seatCount}
-use Rattle.model.specs.Line.{isSilent, allAnswered, left}
+use Rattle.model.specs.Line.{isSilent, allAnswered}
 use Rattle.table.specs.Block.{farmOf}
 use Rattle.rowwork.proofs.RowLaws.{one-silent, none-silent, all-passed}
 use borrow.Author.Needs.{needs}

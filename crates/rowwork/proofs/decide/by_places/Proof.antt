@@ -5,7 +5,7 @@ use native.Mathlib.Omega.{arith}
 use borrow.Author.Tests.{le-leb, lt-leb}
 use Rattle.octets.specs.Search.{countIf}
 use Rattle.model.specs.Row.{isActive}
-use Rattle.model.specs.Line.{accepted, left}
+use Rattle.model.specs.Line.{accepted}
 use Rattle.table.specs.Block.{farmOf}
 use Rattle.rowwork.specs.Did.{siteSheet}
 use borrow.Author.Needs.{needs}

@@ -10,7 +10,7 @@ use Rattle.kinds.specs.Clock.{checkLimit}
 use Rattle.kinds.specs.declared.Clock.{Clock}
 use Rattle.kinds.specs.declared.HeadVerdict.the-variants.{Answer}
 use Rattle.model.specs.Farm.{Farm}
-use Rattle.model.specs.Line.{allAnswered, left}
+use Rattle.model.specs.Line.{allAnswered}
 use Rattle.table.specs.Block.{farmOf}
 use borrow.Author.Needs.{needs}
 use Rattle.rowwork.proofs.decide.check_verdict.Statement.{statement}

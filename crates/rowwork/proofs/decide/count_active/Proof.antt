@@ -10,7 +10,6 @@ use Rattle.octets.specs.Search.{countIf}
 use Rattle.octets.proofs.SearchLaws.{count-here, count-next, count-end}
 use Rattle.kinds.specs.declared.Row.{Row}
 use Rattle.model.specs.Row.{freeRow, isActive}
-use Rattle.model.specs.Line.{left}
 use Rattle.table.specs.Block.{farmOf}
 use Rattle.rowwork.proofs.RowLaws.{nine}
 use borrow.Author.Needs.{needs}

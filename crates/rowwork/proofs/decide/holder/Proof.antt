@@ -7,7 +7,6 @@ use lib.ListN.{drop}
 use Rattle.octets.specs.Search.{firstAt}
 use Rattle.octets.proofs.SearchLaws.{first-here, first-next, first-end}
 use Rattle.model.specs.Row.{freeRow, activeAs}
-use Rattle.model.specs.Line.{left}
 use Rattle.table.specs.Block.{farmOf}
 use Rattle.rowwork.proofs.RowLaws.{nine}
 use borrow.Author.Needs.{needs}

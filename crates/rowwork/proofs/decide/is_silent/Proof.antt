@@ -1,7 +1,6 @@
 -- `decide::is_silent` meets its contract.
 -- Assumes nothing.
 use mathlib.Core.Path.{_∙_}
-use Rattle.model.specs.Line.{asks, left}
 use borrow.Author.Needs.{needs}
 use Rattle.rowwork.proofs.decide.is_silent.Statement.{statement}
 use Rattle.rowwork.proofs.decide.is_silent.Tie as tie

@@ -1,7 +1,6 @@
 -- `decide::rules_for` meets its contract.
 -- Assumes nothing.
 use mathlib.Core.Path.{ap, _∙_}
-use Rattle.model.specs.Row.{wanted}
 use Rattle.model.specs.Line.{socketRules}
 use Rattle.table.specs.Block.{farmOf}
 use Rattle.rowwork.specs.Did.{siteSheet}
