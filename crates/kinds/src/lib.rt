@@ -8,6 +8,13 @@ pub struct RowNo(pub u8);
 
 pub struct FarmNo(pub u8);
 
+// What the rules of a farm's line look at of its sheet: its first row over the whole sheet, its quota, its entity address.
+pub struct Site {
+    pub first: u8,
+    pub quota: u8,
+    pub entity: u16,
+}
+
 // Ticks of 10 ms.
 pub struct Clock {
     pub ticks: u16,

@@ -1,0 +1,3 @@
+pub mod DidLaws
+pub mod RowLaws
+pub mod StepLaws

@@ -1,0 +1,6 @@
+// What the rules do to the rows of one farm, on the farm's block of the lent table and on the lent plan.
+pub mod answer; // answer.rt: a request has its answer
+pub mod check; // check.rt: alive checks start
+pub mod close; // close.rt: rows close
+pub mod decide; // decide.rt: what a request gets
+pub mod say; // say.rt: an entry on one of the farm's rows
