@@ -10,6 +10,8 @@ use Rattle.octets.specs.Parts.{parts, joined}
 use Rattle.octets.specs.Search.{some, all, firstAt, countIf, sameList}
 use Rattle.wire.specs.Types.{types, knownOn, lengthFits}
 use Rattle.wire.specs.Header.{verdictOf}
+use Rattle.layout.specs.Layout.{messageBytes}
+use Rattle.datagram.specs.Datagram.{headVerdict as datagramHead, datagramVerdict, answerBy, answerTo}
 use Rattle.outsheet.specs.Sheet.{entryBytes, bodies, offsets, sheetOf}
 use Rattle.sheet.specs.Find.{lookup}
 use Rattle.sheet.specs.Rows.{ownerFrom}
@@ -21,7 +23,7 @@ use Rattle.model.specs.Stream.{feed, takes}
 use Rattle.model.specs.Farm.{seatCount, newFarm, andThen, eachSeat, closed, closedIf}
 use Rattle.model.specs.Line.{accepted, socketRules, decide, allAnswered, askedIf, started, advanced, answered, headVerdict, settleLine, joined as joinedLine, left, isAsked, marked}
 use Rattle.model.specs.Bytes.{requested, diagnosed, eventDone, heard, bytesDone}
-use Rattle.model.specs.Move.{noRow, connects, ticked, move, tickMove}
+use Rattle.model.specs.Move.{noRow, connects, ticked, datagramMove, mostUser, controllerMove, move, tickMove}
 use Rattle.model.specs.RuleTest.{everySeat, goodFarm}
 use Rattle.model.specs.Table.{Call, goodTable, leastOutput, assemblingSize, whose, step}
 use Rattle.model.specs.History.{run}
@@ -31,9 +33,9 @@ use Rattle.days.specs.Histories.{aActiveBAsked}
 use Rattle.days.specs.Further.{furtherDays, codeIfAnswered, codeIfSilent}
 
 pub further-days : Hold furtherDays
-unfolding furtherDays taken farmSheetOf tableAfter gives upTo parts joined some all firstAt countIf sameList types knownOn lengthFits verdictOf entryBytes bodies offsets sheetOf lookup ownerFrom goodSheet everyBelow farmSheet noFarm slotSheet initialLimit checkLimit generalLimit mostTicks stepped noHead feed takes seatCount newFarm andThen eachSeat closed closedIf accepted socketRules decide allAnswered askedIf started advanced answered headVerdict settleLine joinedLine left isAsked marked requested diagnosed eventDone heard bytesDone noRow connects ticked move tickMove everySeat goodFarm goodTable leastOutput assemblingSize whose step run
+unfolding furtherDays taken messageBytes datagramHead datagramVerdict answerBy answerTo datagramMove mostUser controllerMove farmSheetOf tableAfter gives upTo parts joined some all firstAt countIf sameList types knownOn lengthFits verdictOf entryBytes bodies offsets sheetOf lookup ownerFrom goodSheet everyBelow farmSheet noFarm slotSheet initialLimit checkLimit generalLimit mostTicks stepped noHead feed takes seatCount newFarm andThen eachSeat closed closedIf accepted socketRules decide allAnswered askedIf started advanced answered headVerdict settleLine joinedLine left isAsked marked requested diagnosed eventDone heard bytesDone noRow connects ticked move tickMove everySeat goodFarm goodTable leastOutput assemblingSize whose step run
 further-days =
-    (λ n. refl, (λ n. refl, (λ n. refl, (λ n. refl, (λ n. refl, (λ n. refl, (λ n. refl, (λ n. refl, (λ n. refl, (λ n. refl, (λ n. refl, (λ n. refl, (λ n. refl, (λ n. refl, (λ n. refl, (λ n. refl, (λ n. refl, (λ n. refl, (λ n. refl, (λ n. refl, tt))))))))))))))))))))
+    (λ n. refl, (λ n. refl, (λ n. refl, (λ n. refl, (λ n. refl, (λ n. refl, (λ n. refl, (λ n. refl, (λ n. refl, (λ n. refl, (λ n. refl, (λ n. refl, (λ n. refl, (λ n. refl, (λ n. refl, (λ n. refl, (λ n. refl, (λ n. refl, (λ n. refl, (λ n. refl, (λ n. refl, (λ n. refl, tt))))))))))))))))))))))
 
 -- DECIDING ON JOINING is shut out: no rule that looks only at the calls up to B's joining gives the code that B gets, for it is 01 if A
 -- answers afterwards and 10 if A stays silent.

@@ -34,5 +34,15 @@ abbrev pub refusal : ℕ → ℕ → ℕ → ℕ → Entry
 refusal row target source code =
     entry row 1 ((0x03 ∷ 0xFC ∷ 0x80 ∷ 0x03 ∷ 0x00 ∷ 0x00 ∷ 0x00 ∷ 0x05 ∷ be16 target) ++ be16 source ++ (code ∷ []))
 
+-- 4002, with row 255
+abbrev pub status : ℕ → ℕ → Entry
+status q rows =
+    entry 255 1 (0x03 ∷ 0xFC ∷ 0x40 ∷ 0x02 ∷ 0x00 ∷ 0x00 ∷ 0x00 ∷ 0x07 ∷ 0x00 ∷ q ∷ rows ∷ 0x00 ∷ 0x00 ∷ 0x08 ∷ 0x00 ∷ [])
+
+-- 8001 to a tester, with one byte of user data
+abbrev pub toTester : ℕ → ℕ → ℕ → List ℕ → Entry
+toTester row controller tester user =
+    entry row 1 ((0x03 ∷ 0xFC ∷ 0x80 ∷ 0x01 ∷ 0x00 ∷ 0x00 ∷ 0x00 ∷ 0x05 ∷ be16 controller) ++ be16 tester ++ user)
+
 abbrev pub sheet : List Entry → List ℕ
 sheet es = sheetOf es

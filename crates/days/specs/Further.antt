@@ -8,11 +8,11 @@ use Rattle.kinds.specs.declared.RowState.the-variants.{Active}
 use Rattle.kinds.specs.Clock.{clockOf}
 use Rattle.model.specs.Row.{rowOf}
 use Rattle.model.specs.Farm.{newFarm, withRow}
-use Rattle.model.specs.Table.{Table, bytesFrom, connectTo, tick}
+use Rattle.model.specs.Table.{Table, bytesFrom, connectTo, tick, datagramTo, messageFrom}
 use Rattle.days.specs.Day.{Day, plain}
 use Rattle.days.specs.Rig.{oneFarm, twoFarms, requestFor, alive, diagnostic, message, gives, sheetsFrom, taken, ticks, nothing, codeIn}
 use Rattle.days.specs.Histories.{one, oneActive, aActiveBAsked, threeWantOne, oneWaits, allAsked, sixWantOne}
-use Rattle.days.specs.Entries.{closing, handing, answer, check, nack, ack, refusal, sheet}
+use Rattle.days.specs.Entries.{closing, handing, answer, check, nack, ack, refusal, status, toTester, sheet}
 
 -- row 0 is active as 0E00 with this idle count (far beyond what a day computes from a fresh table)
 abbrev pub idleFor : ℕ → Table
@@ -38,6 +38,11 @@ furtherDays =
     -- "row not active or source not its address: 8003 with 02, close (ours)"
     ∷ plain (gives (oneFarm 1) oneActive (bytesFrom 0 (diagnostic 0x0E01 0x1010 (0x3E ∷ [])) ∷ []))
     (sheet (refusal 0 0x1010 0x0E01 0x02 ∷ closing 0 ∷ []))
+    -- "4001: answer 4002 with 00, q, open rows of the farm, u32 2,048.", with row 255: of the farm's two rows one is active and one fresh
+    ∷ plain (gives (oneFarm 1) oneActive (connectTo 0 ∷ datagramTo 0 (message 0x4001 []) ∷ [])) (nothing ++ sheet (status 1 2 ∷ []))
+    -- "A controller message goes out as 8001: controller, tester, user data.", to the row that the tester is active on
+    ∷ plain (gives (oneFarm 2) oneWaits (bytesFrom 2 (requestFor 0x0E01) ∷ messageFrom 0 0x1010 0x0E01 (0x7E ∷ []) ∷ []))
+    (sheet (answer 2 0x0E01 0x10 ∷ []) ++ sheet (toTester 2 0x1010 0x0E01 (0x7E ∷ []) ∷ []))
     -- "q=2, A active as 0E00, B and C both ask for 0E00, all stay silent: tick 50 A closes, B gets 10 and a check; tick 100 B closes, C
     -- gets 10."
     ∷ plain (gives (oneFarm 2) threeWantOne (ticks 100))
