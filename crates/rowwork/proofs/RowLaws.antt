@@ -15,8 +15,9 @@ use Rattle.octets.specs.Search.{firstAt}
 use Rattle.octets.specs.Parts.{parts}
 use Rattle.octets.proofs.FoldLaws.{upTo-more, upTo-done}
 use Rattle.octets.proofs.PartsLaws.{parts-length}
-use Rattle.table.specs.Layout.{seats, rowsAt, rowSize}
-use Rattle.table.specs.RowBytes.{rowFrom}
+use Rattle.rowbytes.specs.RowLayout.{rowSize}
+use Rattle.rowbytes.specs.RowBytes.{rowFrom}
+use Rattle.table.specs.Layout.{seats, rowsAt}
 use Rattle.table.specs.Block.{farmOf}
 
 pub nine : (b : List ℕ) → length (farmOf b .rows) ≡ seats
