@@ -1,6 +1,6 @@
 -- The changes that a call makes before it settles, one by one: while the head stays, its check asks the same rows.
 -- Assumes nothing.
-use Prim.Native.Nat.{ℕ, zero, suc, _<_}
+use Prim.Native.Nat.{ℕ, _<_}
 use mathlib.Core.Path.{_≡_, refl, sym, ap, subst, _∙_}
 use mathlib.Core.Bool.{Bool, true, false, false≢true}
 use mathlib.Core.List.{List, [], _∷_, _++_, map}
@@ -10,7 +10,7 @@ use lib.ListN.{set}
 use lib.Seq.{getD-set-other}
 use borrow.Author.Tests.{eqb-true, eqb-false, ne-eqb}
 use Rattle.octets.specs.declared.Found.the-variants.{At, Nothing}
-use Rattle.octets.specs.Choice.{pick, both}
+use Rattle.octets.specs.Choice.{pick}
 use Rattle.octets.specs.Search.{firstAt, countIf}
 use Rattle.octets.proofs.ChoiceLaws.{both-right}
 use Rattle.kinds.specs.declared.Request.{Request}
@@ -27,7 +27,7 @@ use Rattle.model.specs.Bytes.{heardRow, heard}
 use Rattle.model.specs.Move.{clockRun, aged}
 use Rattle.model.specs.Rule.{HeadKeeps}
 use Rattle.model.proofs.Cases.{pick-case, split}
-use Rattle.model.proofs.Rows.{row-set, row-map}
+use Rattle.model.proofs.Rows.{row-set, row-map, row-freed}
 use Rattle.model.proofs.Seats.{closings-keep}
 use Rattle.model.proofs.Settling.{Anew, anew-cleared, started-farm, advanced-farm, Runs, runs, pending-runs}
 use Rattle.model.proofs.CalmRows.{Alike, NoMore, as-active, more-same}
@@ -43,11 +43,6 @@ set-no-more rows seat x h i a =
 -- another row asks for what it did
 set-wanted : (rows : List Row) (seat head : ℕ) (x : Row) → (head ≡ seat → ⊥) → wanted (rowAt (set rows seat x) head) ≡ wanted (rowAt rows head)
 set-wanted rows seat head x n = row-set rows seat head x (λ y. wanted y ≡ wanted (rowAt rows head)) (λ e l. absurd (n e)) refl
-
-row-freed : (rows : List Row) (i : ℕ) → rowAt (set rows i freeRow) i ≡ freeRow
-row-freed [] i = refl
-row-freed (x ∷ rows) zero = refl
-row-freed (x ∷ rows) (suc i) = row-freed rows i
 
 -- a row that does not wait isn't the head
 pub apart : {own : FarmSheet} {f : Farm} → Ready own f → (head : ℕ) (rest : List ℕ) → f .line ≡ head ∷ rest → (seat : ℕ)

@@ -1,8 +1,8 @@
 -- What a bytes call finishes, said by the bytes themselves: those of the message in hand, then those that come.
 -- Assumes nothing.
-use Prim.Native.Nat.{ℕ, zero, suc, _+_, _≤_, _<_}
+use Prim.Native.Nat.{ℕ, suc, _+_, _≤_, _<_}
 use mathlib.Core.Path.{_≡_, refl, sym, ap, _∙_}
-use mathlib.Core.Bool.{Bool, true, false, false≢true}
+use mathlib.Core.Bool.{true, false}
 use mathlib.Core.Logic.{_⊎_, inl, inr}
 use mathlib.Core.List.{List, [], _∷_, _++_, append-assoc}
 use native.Mathlib.Numerals.{add-one}
@@ -12,7 +12,6 @@ use lib.ListN.{length, getD, take, drop, set, length-append, length-set, List·g
 use lib.Seq.{take-all, take-suc-set, length-take-le, take-at, drop-at}
 use borrow.Author.Tests.{ltb-true, ltb-false, leb-true, leb-false, lt-ltb, le-ltb}
 use Rattle.octets.specs.Choice.{pick, both}
-use Rattle.octets.specs.Search.{some}
 use Rattle.kinds.specs.declared.Fault.{Fault}
 use Rattle.kinds.specs.declared.Fault.the-variants.{UnknownType, TooLong}
 use Rattle.kinds.specs.declared.Verdict.{Verdict}
@@ -21,11 +20,11 @@ use Rattle.kinds.specs.declared.Place.{Place}
 use Rattle.kinds.specs.declared.Place.the-variants.{Header, Reading, Skipping}
 use Rattle.wire.specs.declared.header.Header.{Header as Head}
 use Rattle.wire.proofs.HeaderLaws.{passes-all}
-use Rattle.wire.specs.Types.{types, tcp, lengthFits}
 use Rattle.wire.specs.Header.{headerSize, headerAt, mostPayload, verdictOf}
 use Rattle.model.specs.Stream.{Stream, streamOf, Event, inputEnded, finished, storedIn, isStored, judged, feed, Taken, takesBy, takes}
 use Rattle.model.specs.Rule.{PossibleAt}
 use Rattle.model.specs.HandsOn.{inHandBytes, WholeOf, payloadOf}
+use Rattle.model.proofs.SoundStream.{passes-some}
 use Rattle.model.proofs.Cases.{split}
 
 -- the call finishes a message of this type exactly where one is whole, and then the payload stands at the front of the row's room
@@ -35,21 +34,6 @@ pub record Ends (k : ℕ) (m : List ℕ) (e : Event) (s : Stream) : Type 0 where
   pub only : (size : ℕ) → e ≡ finished k size → WholeOf k m
 
 -- ---- a header that passes announces at least one byte
-
-both-none : (b : Bool) → both b false ≡ false
-both-none true = refl
-both-none false = refl
-
-fits-some : (kind : ℕ) → lengthFits tcp kind 0 ≡ false
-unfolding lengthFits some types
-fits-some kind = simp both-none
-
-pub passes-some : (h : Head) → verdictOf h ≡ Passes → 1 ≤ h .length
-passes-some h e = go (h .length) refl
-  where
-    go : (n : ℕ) → h .length ≡ n → 1 ≤ h .length
-    go zero z = absurd (false≢true (sym (fits-some (h .kind)) ∙ rw z at (passes-all h e .fits)))
-    go (suc n) z = omega arith
 
 -- ---- one byte further
 

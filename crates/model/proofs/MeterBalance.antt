@@ -7,12 +7,11 @@ use mathlib.Core.Bool.{Bool, true, false, false≢true}
 use mathlib.Core.List.{List, [], _∷_, _++_, map}
 use native.Mathlib.Nat.{not-suc-le-zero}
 use native.Mathlib.Omega.{arith}
-use lib.Dec.{eqb, ltb, leb}
+use lib.Dec.{eqb, ltb}
 use lib.ListN.{set, length}
 use borrow.Author.Tests.{ltb-true, ltb-false, eq-eqb}
-use Rattle.octets.specs.Choice.{both, one}
-use Rattle.octets.specs.Search.{some, countIf}
-use Rattle.kinds.specs.declared.Fault.{Fault}
+use Rattle.octets.specs.Choice.{one}
+use Rattle.octets.specs.Search.{countIf}
 use Rattle.kinds.specs.declared.Verdict.{Verdict}
 use Rattle.kinds.specs.declared.Verdict.the-variants.{Passes, Wrong}
 use Rattle.kinds.specs.declared.RowState.{RowState}
@@ -20,16 +19,15 @@ use Rattle.kinds.specs.declared.RowState.the-variants.{Free, Fresh, Waiting, Ac
 use Rattle.kinds.specs.declared.Place.{Place}
 use Rattle.kinds.specs.declared.Place.the-variants.{Header, Reading, Skipping}
 use Rattle.kinds.specs.declared.Row.{Row}
-use Rattle.wire.specs.declared.header.Header.{Header as Head}
-use Rattle.wire.specs.Types.{tcp, types, lengthFits, knownOn}
-use Rattle.wire.specs.Header.{headerSize, headerAt, verdictOf, closes, rightPattern, mostPayload}
+use Rattle.wire.specs.Header.{headerSize, headerAt, verdictOf, closes}
 use Rattle.model.specs.Row.{freeRow, rowAt, inHandAt, inHandBy, inHand, isOpenState, older, olderState, boundary}
 use Rattle.model.specs.Stream.{Stream, Event, inputEnded, wrong, finished, skipped, Fed, more, ends, judged, feedAt, feed, takesBy, takes, endedBy}
 use Rattle.model.specs.Farm.{wrap}
 use Rattle.model.specs.Line.{without}
 use Rattle.model.specs.Rule.{times, PossibleAt}
 use Rattle.model.specs.Meter.{hands}
-use Rattle.model.proofs.Cases.{pick-case, unless-case}
+use Rattle.model.proofs.SoundStream.{passes-some}
+use Rattle.model.proofs.Cases.{pick-case}
 use Rattle.model.proofs.Rows.{row-set, row-map}
 
 -- ---- sums that wrap
@@ -46,29 +44,6 @@ wrap-right a b c = ap wrap (swap a (wrap b) c) ∙ wrap-left b (a + c) ∙ ap wr
   where
     swap : (x y z : ℕ) → x + (y + z) ≡ y + (x + z)
     swap x y z = omega arith
-
--- ---- a header that passes announces a payload
-
-both-false : (b : Bool) → both b false ≡ false
-both-false true = refl
-both-false false = refl
-
-fits-some : (kind n : ℕ) → lengthFits tcp kind n ≡ true → 0 < n
-unfolding lengthFits some types
-fits-some kind zero e = absurd (false≢true (simp both-false at e))
-fits-some kind (suc n) e = omega arith
-
-pub passes-some : (h : Head) → verdictOf h ≡ Passes → 0 < h .length
-unfolding verdictOf
-passes-some h =
-    unless-case (λ v. v ≡ Passes → 0 < h .length) (rightPattern (h .version) (h .inverse)) _ _ (λ _ e. absurd (never e))
-    (λ _. unless-case (λ v. v ≡ Passes → 0 < h .length) (knownOn tcp (h .kind)) _ _ (λ _ e. absurd (never e))
-    (λ _. unless-case (λ v. v ≡ Passes → 0 < h .length) (leb (h .length) mostPayload) _ _ (λ _ e. absurd (never e))
-    (λ _. unless-case (λ v. v ≡ Passes → 0 < h .length) (lengthFits tcp (h .kind) (h .length)) _ _ (λ _ e. absurd (never e))
-    (λ t _. fits-some (h .kind) (h .length) t))))
-  where
-    never : {f : Fault} → Wrong f ≡ Passes → ⊥
-    never e = let z : _≡_ {A = ℕ} 0 1 = cc in omega arith
 
 -- ---- one byte, and a whole call
 

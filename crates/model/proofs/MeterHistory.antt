@@ -18,11 +18,13 @@ use Rattle.model.specs.Rule.{Good}
 use Rattle.model.specs.Table.{Table, noHeld, slot, heldBy, slotTick, tableOf}
 use Rattle.model.specs.History.{Made, fresh, stepOf, run}
 use Rattle.model.specs.Meter.{notesOf, saidBy, Log, noLog, notedBy, logFrom, finishedUpTo, total, takenBy, takenOf, finishedOf, lostOf, logOf, hands, Differs, Balanced, MetersAre}
+use Rattle.model.proofs.Neighbour.{fresh-length}
+use Rattle.model.proofs.Rows.{row-free}
 use Rattle.model.proofs.Cases.{pick-case, split}
 use Rattle.model.proofs.MeterSlot.{step-slot, step-length}
 use Rattle.model.proofs.MeterLog.{Tied, Logged}
 use Rattle.model.proofs.MeterSums.{exact}
-use Rattle.model.proofs.MeterNone.{free-rows, slot-none, run-length, none-sum, none-sums}
+use Rattle.model.proofs.MeterNone.{slot-none, run-length, none-sum, none-sums}
 use Rattle.model.proofs.MeterTable.{step-comes}
 use Rattle.model.proofs.MeterEven.{move-differs, tick-differs}
 
@@ -54,10 +56,6 @@ fresh-slot : (rooms : List (List (List ℕ))) (g : ℕ) → slot (fresh rooms) g
 fresh-slot [] g = refl
 fresh-slot (r ∷ rooms) zero = refl
 fresh-slot (r ∷ rooms) (suc g) = fresh-slot rooms g
-
-fresh-length : (rooms : List (List (List ℕ))) → length (fresh rooms) ≡ length rooms
-fresh-length [] = refl
-fresh-length (r ∷ rooms) = ap suc (fresh-length rooms)
 
 free-hands : (n : ℕ) → hands (replicate n freeRow) ≡ 0
 unfolding hands
@@ -100,7 +98,7 @@ new-logged own =
             lost = ap wrap (sym (none-sum (own .rows)));
             each = sym (none-sum (own .rows));
           };
-      tied = λ i h. subst (λ (r : Row). Tied r noLog) (sym (free-rows seatCount i)) refl;
+      tied = λ i h. subst (λ (r : Row). Tied r noLog) (sym (row-free seatCount i)) refl;
     }
 
 -- THE METER EQUATION: "taken equals finished plus lost plus the bytes in hand on open rows, modulo 2^32", after every history from a

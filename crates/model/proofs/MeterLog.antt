@@ -7,7 +7,7 @@ use mathlib.Core.List.{List, [], _∷_, _++_}
 use native.Mathlib.Nat.{not-suc-le-zero}
 use native.Mathlib.Omega.{arith}
 use lib.Dec.{eqb, leb}
-use lib.ListN.{set, length}
+use lib.ListN.{length}
 use borrow.Author.Tests.{eqb-true, eqb-false, eq-eqb, ne-eqb, leb-true, leb-false}
 use Rattle.octets.specs.Choice.{pick, both}
 use Rattle.kinds.specs.declared.RowState.{RowState}
@@ -21,7 +21,7 @@ use Rattle.model.specs.Row.{boundary, noHead, freeRow, rowAt, inHandBy, 
 use Rattle.model.specs.Farm.{Farm, wrap, says, closed}
 use Rattle.model.specs.Meter.{Log, filed, filedBy, isClose, total, sumTo, finishedUpTo, finishedIn, finishedOn, lostOn}
 use Rattle.model.proofs.Cases.{split}
-use Rattle.model.proofs.Rows.{row-other}
+use Rattle.model.proofs.Rows.{row-other, row-freed}
 use Rattle.model.proofs.Seats.{closed-rows}
 use Rattle.model.proofs.MeterBalance.{wrap-left}
 use Rattle.model.proofs.MeterCut.{whole-none}
@@ -171,12 +171,6 @@ module _ (own : FarmSheet) (seat : ℕ) (f : Farm) where
   closed-lost : closed own seat f .farm .meters .lost ≡ wrap (f .meters .lost + inHand (rowAt (f .rows) seat))
   unfolding closed
   closed-lost = refl
-
--- a freed row is free, whether there was one or not
-row-freed : (rows : List Row) (i : ℕ) → rowAt (set rows i freeRow) i ≡ freeRow
-row-freed [] i = refl
-row-freed (x ∷ rows) zero = refl
-row-freed (x ∷ rows) (suc i) = row-freed rows i
 
 filed-finished : (l : Log) → finishedOn (filed l) ≡ finishedOn l
 unfolding total

@@ -5,7 +5,7 @@ use mathlib.Core.Path.{_≡_, refl, sym, ap, subst, _∙_}
 use mathlib.Core.List.{List, [], _∷_, append-nil}
 use native.Mathlib.Omega.{arith}
 use lib.Dec.{eqb}
-use lib.ListN.{length, replicate, List·getD-eq-default}
+use lib.ListN.{length, List·getD-eq-default}
 use borrow.Author.Tests.{eqb-true, eqb-false, ne-eqb}
 use Rattle.octets.specs.Choice.{both}
 use Rattle.kinds.specs.declared.Item.{Item}
@@ -16,12 +16,12 @@ use Rattle.sheet.specs.Sheet.{farmCount}
 use Rattle.sheet.specs.Rows.{ownerOf}
 use Rattle.sheet.proofs.RowsLaws.{IsSeat, owner-seat}
 use Rattle.model.specs.FarmSheet.{slotSheet}
-use Rattle.model.specs.Row.{freeRow, rowAt}
 use Rattle.model.specs.Farm.{seatCount, newFarm}
 use Rattle.model.specs.Move.{bytes, Held, move, bytesBy}
 use Rattle.model.specs.Table.{Table, noHeld, slot, Call, connectTo, bytesFrom, peerClosedOn, linkLostOf, tick, datagramTo, messageFrom, ofOwner, whose, Outcome, refuses, movedTo, called, tableOf}
 use Rattle.model.specs.History.{Made, stepOf, run}
 use Rattle.model.specs.Meter.{Said, turnedAway, gives, saidBy, finishedUpTo, finishedIn, total, Log, noLog, took, begun, filed, filedBy, isClose, bytesOn, isConnect, tookOn, takenBy, notedBy, finishedOn, lostOn, notesOf, logFrom, logOf, sumTo, takenOf, finishedOf, lostOf}
+use Rattle.model.proofs.Rows.{row-free}
 use Rattle.model.proofs.Cases.{pick-case, split}
 use Rattle.model.proofs.MeterSlot.{step-cases, step-length}
 use Rattle.model.proofs.MeterLog.{sum-same}
@@ -54,11 +54,6 @@ blank-noted r call (gives row n items) l e b =
 
 -- ---- no call takes bytes from a farm without a slot
 
-pub free-rows : (n i : ℕ) → rowAt (replicate n freeRow) i ≡ freeRow
-free-rows zero i = refl
-free-rows (suc n) zero = refl
-free-rows (suc n) (suc i) = free-rows n i
-
 pub slot-none : (t : Table) (g : ℕ) → length t ≤ g → slot t g ≡ noHeld
 slot-none t g h = List·getD-eq-default t noHeld {n = g} h
 
@@ -81,7 +76,7 @@ module _ (s : List ℕ) (g : ℕ) (isFarm : g < farmCount s) (t : Table) (out : 
   unfolding move newFarm
   no-rows seat input =
       ap (λ (h : Held). movedTo t g (move (slotSheet s g) h (bytes seat input))) (slot-none t g out) ∙
-      ap (λ (r : Row). movedTo t g (bytesBy (slotSheet s g) noHeld seat input (r .state))) (free-rows seatCount seat)
+      ap (λ (r : Row). movedTo t g (bytesBy (slotSheet s g) noHeld seat input (r .state))) (row-free seatCount seat)
 
   bytes-skips : (row f seat : ℕ) (input : List ℕ) → IsSeat s (farmCount s) row f seat
       → Skips (bytesFrom row input) (saidBy (movedTo t f (move (slotSheet s f) (slot t f) (bytes seat input))))

@@ -20,7 +20,8 @@ use Rattle.model.specs.Row.{boundary, noHead, inHandAt}
 use Rattle.model.specs.Stream.{Stream, Event, inputEnded, finished, skipped, Fed, more, ends, judged, feedAt, feed, takesBy, takes}
 use Rattle.model.specs.Meter.{stops, wholeSize, finishedIn}
 use Rattle.model.proofs.Cases.{pick-case, split}
-use Rattle.model.proofs.MeterBalance.{closing, passes-some}
+use Rattle.model.proofs.SoundStream.{passes-some}
+use Rattle.model.proofs.MeterBalance.{closing}
 use Rattle.model.proofs.MeterCut.{Whole, whole-append, whole-message, short-none, part-none, head-same, head-append, cut-stops}
 
 -- ---- the bytes of the message that is not finished, at a place with these header bytes

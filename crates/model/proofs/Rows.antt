@@ -1,15 +1,15 @@
 -- Laws of a farm's rows: a row after a store, and how a store changes a count.
 -- Assumes nothing.
 use Prim.Native.Nat.{ℕ, zero, suc, _+_, _≤_, _<_}
-use mathlib.Core.Path.{_≡_, refl, sym, ap, _∙_}
+use mathlib.Core.Path.{_≡_, refl, sym, ap}
 use mathlib.Core.Bool.{Bool, true, false, false≢true}
 use mathlib.Core.List.{List, [], _∷_, _++_, map}
 use native.Mathlib.Nat.{not-suc-le-zero}
 use native.Mathlib.Omega.{arith}
 use lib.Dec.{eqb}
-use lib.ListN.{getD, set, length, replicate}
-use borrow.Author.Tests.{eqb-true, eq-eqb}
-use Rattle.octets.specs.Choice.{pick, one}
+use lib.ListN.{set, length, replicate}
+use borrow.Author.Tests.{eqb-true}
+use Rattle.octets.specs.Choice.{one}
 use Rattle.octets.specs.Search.{countIf}
 use Rattle.kinds.specs.declared.Row.{Row}
 use Rattle.model.specs.Row.{freeRow, rowAt, isOpen}
@@ -111,3 +111,9 @@ pub row-free : (n i : ℕ) → rowAt (replicate n freeRow) i ≡ freeRow
 row-free zero i = refl
 row-free (suc n) zero = refl
 row-free (suc n) (suc i) = row-free n i
+
+-- a freed row is free, whether there was one or not
+pub row-freed : (rows : List Row) (i : ℕ) → rowAt (set rows i freeRow) i ≡ freeRow
+row-freed [] i = refl
+row-freed (x ∷ rows) zero = refl
+row-freed (x ∷ rows) (suc i) = row-freed rows i

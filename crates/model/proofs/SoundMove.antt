@@ -25,7 +25,7 @@ use Rattle.model.specs.Bytes.{takenBy}
 use Rattle.model.specs.Move.{Own, connect, bytes, peerClosed, linkLost, datagram, controller, Held, Given, Move, refused, gave, connectedAt, connects, tookBytes, bytesBy, peerGone, linkGone, clockRun, aged, ticked, datagramMove, mostUser, isTarget, toTester, controllerMove, move}
 use Rattle.model.specs.Rule.{times, RowKeeps, PossibleAt}
 use Rattle.model.proofs.Cases.{pick-case, unless-case}
-use Rattle.model.proofs.Rows.{row-map, open-in, count-map, times-gone, times-kept}
+use Rattle.model.proofs.Rows.{row-map, open-in, count-map, times-gone, times-kept, row-free}
 use Rattle.model.proofs.RuleParts.{Sound}
 use Rattle.model.proofs.SoundRows.{Kept, Lined, Young, kept-of, sound-from, one-small, shut-loud, limit-loud, fresh-young, put-kept, free-kept, free-young, put-young, put-lined}
 use Rattle.model.proofs.SoundClose.{closings-line, closings-marks, closings-kept, closings-young, closings-lined, closings-none}
@@ -56,13 +56,8 @@ newly-sound {own} =
     })
     (λ i. at i (λ r. atLimit r ≡ false) refl) (λ i. at i (λ r. times i [] ≡ one (isWaiting r)) refl) no-marks
   where
-    all-free : (i n : ℕ) → rowAt (replicate n freeRow) i ≡ freeRow
-    all-free i zero = refl
-    all-free zero (suc n) = refl
-    all-free (suc i) (suc n) = all-free i n
-
     at : (i : ℕ) (P : Row → Type 0) → P freeRow → P (rowAt (replicate seatCount freeRow) i)
-    at i P p = subst P (sym (all-free i seatCount)) p
+    at i P p = subst P (sym (row-free seatCount i)) p
 
     none : (p : Row → Bool) → p freeRow ≡ false → (n : ℕ) → countIf p (replicate n freeRow) ≡ 0
     none p e zero = refl

@@ -1,16 +1,15 @@
 -- Every call keeps every row tidy (and so does a tick).
 -- Assumes nothing.
-use Prim.Native.Nat.{ℕ, zero, suc}
-use mathlib.Core.Path.{_≡_, refl, sym, ap, _∙_}
+use Prim.Native.Nat.{ℕ}
+use mathlib.Core.Path.{_≡_, refl, ap}
 use mathlib.Core.Bool.{Bool, true, false}
-use mathlib.Core.List.{List, [], _∷_, map}
+use mathlib.Core.List.{List, [], _∷_}
 use lib.Dec.{eqb, leb}
-use lib.ListN.{length, set, take, getD, replicate}
+use lib.ListN.{length, take, getD}
 use Rattle.octets.specs.declared.Found.{Found}
 use Rattle.octets.specs.declared.Found.the-variants.{At, Nothing}
-use Rattle.octets.specs.Choice.{pick, both, unless}
+use Rattle.octets.specs.Choice.{pick, unless}
 use Rattle.octets.specs.Search.{firstAt}
-use Rattle.kinds.specs.declared.Fault.{Fault}
 use Rattle.kinds.specs.declared.Request.{Request}
 use Rattle.kinds.specs.declared.RowState.{RowState}
 use Rattle.kinds.specs.declared.RowState.the-variants.{Free, Fresh, Waiting, Active}
@@ -26,13 +25,13 @@ use Rattle.wire.specs.Header.{closes}
 use Rattle.wire.specs.Payload.{requestIn, addressIn, endsIn}
 use Rattle.model.specs.FarmSheet.{FarmSheet, TargetIs, stranger, unreachable, reachable}
 use Rattle.model.specs.Row.{freeRow, rowAt, isFreeState, isFree, older, wanted, isOpen, activeAs}
-use Rattle.model.specs.Stream.{Event, inputEnded, wrong, finished, skipped, Taken, takes}
-use Rattle.model.specs.Farm.{Farm, seatCount, newFarm, withMarks, Done, does, quietly, andThen, says, closed, closedWhere}
+use Rattle.model.specs.Stream.{Event, inputEnded, wrong, finished, skipped, Taken}
+use Rattle.model.specs.Farm.{Farm, seatCount, newFarm, Done, does, quietly, andThen, says, closed, closedWhere}
 use Rattle.model.specs.Line.{asks, accepted, socketRules, decide, isSilent, askedIf, asking, cleared, startedBy, started, advanced, answered, headVerdict, serve, settleLine, settle, joined, leftBy, left, marked, isEmpty, answersCheck}
-use Rattle.model.specs.Bytes.{decidedBy, requested, toTarget, diagnosed, messaged, faulted, eventDone, heard, takenBy, bytesDone}
-use Rattle.model.specs.Move.{Own, connect, bytes, peerClosed, linkLost, datagram, controller, Held, Given, Move, refused, gave, connects, connectedAt, bytesBy, peerGone, linkGone, clockRun, aged, ticked, moves, mostUser, isTarget, controllerMove, datagramMove, toTester, move}
-use Rattle.model.specs.Rule.{Tidy}
+use Rattle.model.specs.Bytes.{decidedBy, requested, toTarget, diagnosed, messaged, eventDone, heard, takenBy, bytesDone}
+use Rattle.model.specs.Move.{Own, connect, bytes, peerClosed, linkLost, datagram, controller, Held, Move, refused, gave, connects, connectedAt, bytesBy, peerGone, linkGone, clockRun, aged, ticked, moves, mostUser, isTarget, controllerMove, datagramMove, toTester, move}
 use Rattle.model.proofs.Cases.{pick-case}
+use Rattle.model.proofs.Rows.{row-free}
 use Rattle.model.proofs.Seats.{then-keeps, each-keeps, closings-keep}
 use Rattle.model.proofs.TidyRows.{AllTidy, tidy-between, tidy-older, tidy-heard, tidy-stream, tidy-set, tidy-map, tidy-takes}
 
@@ -220,9 +219,4 @@ module _ (own : FarmSheet) where
 -- a new farm is tidy
 pub tidy-new : TidyFarm newFarm
 unfolding newFarm
-tidy-new i = all-free seatCount i
-  where
-    all-free : (n i : ℕ) → Tidy (rowAt (replicate n freeRow) i)
-    all-free zero i = tidy-between Free
-    all-free (suc n) zero = tidy-between Free
-    all-free (suc n) (suc i) = all-free n i
+tidy-new i = rw (row-free seatCount i) (tidy-between Free)
