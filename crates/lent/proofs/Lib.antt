@@ -1,3 +1,5 @@
 pub mod SlotLaws
 pub mod LentLaws
 pub mod BytesLaws
+pub mod GateLaws
+pub mod ServedLaws
