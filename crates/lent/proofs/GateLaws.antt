@@ -7,6 +7,7 @@ use mathlib.Core.List.{List, [], _∷_}
 use native.Mathlib.Omega.{arith}
 use lib.Dec.{eqb, leb}
 use lib.ListN.{length}
+use borrow.Author.Tests.{lt-leb, le-leb, eq-eqb, ne-eqb}
 use Rattle.octets.specs.Choice.{both, unless}
 use Rattle.octets.specs.Says.{Says}
 use Rattle.octets.proofs.SaysLaws.{never}
@@ -115,4 +116,38 @@ module _ (s out m : List ℕ) where
   pub starts : Lendable s out m → (t : List ℕ) → lentStart s t out m ≡ did (started (lentTable s t m))
   unfolding lentStart startStep
   starts p t =
+      rw (good-says s .all (p .sheet), says-le leastOutput (length out) .all (p .output), says-eq (length m) assemblingSize .all (p .assembling))
+
+-- ---- test by test, as the code asks them
+
+  pub number-1 : goodSheet s ≡ false → 1 ≡ startNumber s out m
+  unfolding startNumber
+  number-1 a = rw a
+
+  pub number-2 : goodSheet s ≡ true → length out < leastOutput → 2 ≡ startNumber s out m
+  unfolding startNumber
+  number-2 a b = rw (a, lt-leb leastOutput (length out) b)
+
+  pub number-3 : goodSheet s ≡ true → leastOutput ≤ length out → (length m ≡ assemblingSize → ⊥) → 3 ≡ startNumber s out m
+  unfolding startNumber
+  number-3 a b c = rw (a, le-leb leastOutput (length out) b, ne-eqb (length m) assemblingSize c)
+
+  pub number-0 : goodSheet s ≡ true → leastOutput ≤ length out → length m ≡ assemblingSize → 0 ≡ startNumber s out m
+  unfolding startNumber
+  number-0 a b c = rw (a, le-leb leastOutput (length out) b, eq-eqb (length m) assemblingSize c)
+
+  -- refusal 4 comes after them
+  pub gate-first : (t : List ℕ) (n : ℕ) → startNumber s out m ≡ suc n → gateNumber s t out m ≡ suc n
+  unfolding startNumber gateNumber
+  gate-first t n e = by (goodSheet s) (leb leastOutput (length out)) (eqb (length m) assemblingSize) e
+    where
+      by : (a b c : Bool) → startBy a b c ≡ suc n → unless a 1 (unless b 2 (unless c 3 (unless (both (wholeTable t) (goodTable s (lentTable s t m))) 4 0))) ≡ suc n
+      by false b c e = e
+      by true false c e = e
+      by true true false e = e
+      by true true true e = absurd (omega (arith, e))
+
+  pub gate-last : (t : List ℕ) → Lendable s out m → gateNumber s t out m ≡ unless (both (wholeTable t) (goodTable s (lentTable s t m))) 4 0
+  unfolding gateNumber
+  gate-last t p =
       rw (good-says s .all (p .sheet), says-le leastOutput (length out) .all (p .output), says-eq (length m) assemblingSize .all (p .assembling))

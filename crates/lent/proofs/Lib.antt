@@ -5,3 +5,5 @@ pub mod GateLaws
 pub mod ServedLaws
 pub mod KeepsLaws
 pub mod MoveLaws
+pub mod ZeroLaws
+pub mod CallLaws

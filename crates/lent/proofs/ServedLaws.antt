@@ -10,16 +10,11 @@ use Rattle.octets.specs.Put.{putAt}
 use Rattle.sheet.specs.Rows.{rowsIn}
 use Rattle.sheet.specs.Rules.{GoodSheet}
 use Rattle.outsheet.specs.Contracts.{Wrote}
-use Rattle.model.specs.Move.{noRow}
 use Rattle.model.specs.Table.{assemblingSize, Did, Outcome, refuses, did}
 use Rattle.lent.specs.declared.Answer.{Answer}
 use Rattle.lent.specs.Lent.{tableSize, wholeTable, roomSize, lentTable, tableBytes, roomBytes}
-use Rattle.lent.specs.Served.{sheetBytes, Memory, memory, Served}
+use Rattle.lent.specs.Served.{refusal, done, sheetBytes, Memory, memory, Served}
 use Rattle.lent.proofs.BytesLaws.{whole-exact, table-exact, rooms-exact}
-
--- the answer of a refusal
-abbrev pub refusal : ℕ → Answer
-refusal n = record { number = n; row = noRow; taken = 0; length = 0 }
 
 pub served-refused : (s : List ℕ) (o : Outcome) (n : ℕ) (before : Memory) → o ≡ refuses n → Served s o (refusal n) before before
 served-refused s o n before e =
@@ -34,14 +29,11 @@ pub record Left (s : List ℕ) (d : Did) (m table assembling : List ℕ) : Type 
   pub wide : length assembling ≡ assemblingSize
   pub past : drop (rowsIn s * roomSize) assembling ≡ drop (rowsIn s * roomSize) m
 
-abbrev pub done : Did → ℕ → Answer
-done d n = record { number = 0; row = d .row; taken = d .took; length = n }
-
 pub served-did : (s : List ℕ) (o : Outcome) (d : Did) (t out m table output assembling : List ℕ) (n : ℕ) → GoodSheet s → o ≡ did d
     → Left s d m table assembling → Wrote (sheetBytes d) out output n
-    → Served s o (done d n) (memory t out m) (memory table output assembling)
+    → Served s o (done (d .row) (d .took) n) (memory t out m) (memory table output assembling)
 served-did s o d t out m table output assembling n good e l w =
-    subst (λ (x : Outcome). Served s x (done d n) (memory t out m) (memory table output assembling)) (sym e)
+    subst (λ (x : Outcome). Served s x (done (d .row) (d .took) n) (memory t out m) (memory table output assembling)) (sym e)
     (record {
       number = refl;
       row = refl;

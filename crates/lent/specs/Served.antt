@@ -8,15 +8,23 @@ use lib.ListN.{length, drop}
 use Rattle.octets.specs.Put.{putAt}
 use Rattle.outsheet.specs.Sheet.{sheetOf}
 use Rattle.outsheet.specs.Replies.{entriesOf}
+use Rattle.model.specs.Move.{noRow}
 use Rattle.model.specs.Table.{Did, Outcome, refuses, did, numberOf, rowOf, tookOf, tableOf}
 use Rattle.lent.specs.declared.Answer.{Answer}
 use Rattle.lent.specs.Lent.{wholeTable, lentTable, tableBytes, roomBytes}
+
+-- "A refusal returns its number, output length 0, bytes taken 0, row 255."; "Answer 0 is done"
+abbrev pub refusal : ℕ → Answer
+refusal n = record { number = n; row = noRow; taken = 0; length = 0 }
+
+abbrev pub done : ℕ → ℕ → ℕ → Answer
+done row taken length = record { number = 0; row = row; taken = taken; length = length }
 
 -- the output sheet of a call
 abbrev pub sheetBytes : Did → List ℕ
 sheetBytes d = sheetOf (entriesOf (d .long) (d .items))
 
--- "A refusal returns its number, output length 0, bytes taken 0, row 255. Table and buffers stay byte for byte."
+-- "Table and buffers stay byte for byte."
 abbrev pub lengthAfter : Outcome → ℕ
 lengthAfter (refuses n) = 0
 lengthAfter (did d) = length (sheetBytes d)

@@ -1,0 +1,24 @@
+// Refusals 1 to 4, "in this order; the first that applies is given".
+ghost use mathlib.Core.Path.{_≡_};
+ghost use Rattle.lent.specs.Gate.{startNumber};
+
+// "Output buffer: at least 4,096 bytes. Assembling buffer: exactly 32,768"
+const LEAST_OUTPUT: usize = 4096;
+
+const ASSEMBLING: usize = 32768;
+
+// The refusals of a start: "1 to 4 hold for every call, but start skips 4."
+pub fn start_refusal(s: &[u8], out: &[u8], m: &[u8]) -> u8
+    ensures { λ r. ⌜ r ≡ startNumber (now (s .entry)) (now (out .entry)) (now (m .entry)) ⌝ }
+{
+    if !sheet::rules::sheet_ok(s) {
+        return 1;
+    }
+    if out.len() < LEAST_OUTPUT {
+        return 2;
+    }
+    if m.len() != ASSEMBLING {
+        return 3;
+    }
+    0
+}
