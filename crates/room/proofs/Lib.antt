@@ -1,2 +1,3 @@
 pub mod Open
 pub mod Settled
+pub mod Calls
