@@ -1,3 +1,4 @@
 pub mod Open
 pub mod Settled
 pub mod Calls
+pub mod Long
