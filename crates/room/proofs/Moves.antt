@@ -21,14 +21,35 @@ use Rattle.outsheet.specs.Contracts.{longest}
 use Rattle.model.specs.FarmSheet.{FarmSheet}
 use Rattle.model.specs.Row.{rowAt, isFree, isOpen, activeAs}
 use Rattle.model.specs.Stream.{streamOf, Taken}
-use Rattle.model.specs.Farm.{seatCount}
-use Rattle.model.specs.Bytes.{takenBy}
-use Rattle.model.specs.Move.{Own, connect, bytes, peerClosed, linkLost, datagram, controller, Held, Move, refused, gave, connectedAt, connects, tookBytes, bytesBy, openRows, answers, datagramMove, mostUser, isTarget, toTester, controllerMove, move, tickMove}
+use Rattle.model.specs.Farm.{Farm, seatCount}
+use Rattle.model.specs.Bytes.{takenBy, bytesDone}
+use Rattle.model.specs.Move.{Own, connect, bytes, peerClosed, linkLost, datagram, controller, Held, Move, refused, gave, connectedAt, connects, tookBytes, bytesBy, peerGone, linkGone, ticked, openRows, answers, datagramMove, mostUser, isTarget, toTester, controllerMove, move}
 use Rattle.model.specs.Rule.{Good}
 use Rattle.model.proofs.Cases.{pick-case, unless-case}
 use Rattle.model.proofs.RuleParts.{FarmOk}
 use Rattle.room.proofs.Calls.{ticked-most, peer-most, link-most, bytes-most}
 use Rattle.room.proofs.Long.{longs, bytes-one, peer-short, link-short, answers-few, longs-few, takes-fits}
+
+-- ---- a farm's calls, each for itself
+
+seats-are : seatCount ≡ 9
+unfolding seatCount
+seats-are = refl
+
+module _ {own : FarmSheet} {f : Farm} (ok : FarmOk own) (k : Good own f) where
+  pub ticked-room : length (ticked own f .items) ≤ planRoom
+  ticked-room = omega (arith, ticked-most k (ok .some), ok .rooms, seats-are)
+
+  pub peer-room : (seat : ℕ) → length (peerGone own seat f .items) ≤ planRoom
+  peer-room seat = omega (arith, peer-most k (ok .some) seat, ok .rooms, seats-are)
+
+  pub link-room : length (linkGone own f .items) ≤ planRoom
+  link-room = omega (arith, link-most k, ok .rooms, seats-are)
+
+  pub bytes-room : (seat : ℕ) (t : Taken) → length (bytesDone own seat t f .items) ≤ planRoom
+  bytes-room seat t = omega (arith, bytes-most k (ok .some) seat t, ok .rooms, seats-are)
+
+-- ---- all of them
 
 -- the entries have room in the plan, and their bytes in the output sheet
 pub record Small (items : List Item) (long : List ℕ) : Type 0 where
@@ -48,10 +69,6 @@ small-none = record { few = omega arith; oneLong = omega arith; short = omega ar
 small-one : (items : List Item) (long : List ℕ) → length items ≤ 1 → length long ≤ longest → Small items long
 small-one items long h k = record { few = omega arith; oneLong = omega (arith, longs-few items); short = k }
 
-seats-are : seatCount ≡ 9
-unfolding seatCount
-seats-are = refl
-
 module _ (own : FarmSheet) (ok : FarmOk own) (h : Held) (k : Good own (h .farm)) where
   connects-small : SmallMove (connects own h)
   unfolding connects
@@ -65,7 +82,7 @@ module _ (own : FarmSheet) (ok : FarmOk own) (h : Held) (k : Good own (h .farm))
   took-small seat input =
       let t : Taken = takenBy seat (getD (h .rooms) seat []) input (h .farm) in
       record {
-        few = omega (arith, bytes-most k (ok .some) seat t, ok .rooms, seats-are);
+        few = bytes-room ok k seat t;
         oneLong = bytes-one own seat t (h .farm);
         short =
             takes-fits (streamOf (rowAt (h .farm .rows) seat .place) (rowAt (h .farm .rows) seat .head) (getD (h .rooms) seat [])) input
@@ -90,7 +107,7 @@ module _ (own : FarmSheet) (ok : FarmOk own) (h : Held) (k : Good own (h .farm))
       by most Nothing = tt
       by most (At seat) = small-one _ user (omega arith) (omega arith)
 
-  -- EACH CALL OF A FARM IS SMALL, and so is its tick.
+  -- EACH CALL OF A FARM IS SMALL.
   pub move-small : length (own .names) ≤ longest → (c : Own) → SmallMove (move own h c)
   unfolding move datagramMove
   move-small names connect = connects-small
@@ -98,14 +115,14 @@ module _ (own : FarmSheet) (ok : FarmOk own) (h : Held) (k : Good own (h .farm))
   move-small names (peerClosed seat) =
       pick-case SmallMove (isOpen (rowAt (h .farm .rows) seat)) _ _
       (λ _. record {
-        few = omega (arith, peer-most k (ok .some) seat, ok .rooms, seats-are);
+        few = peer-room ok k seat;
         oneLong = omega (arith, peer-short own seat (h .farm));
         short = omega arith;
       })
       (λ _. tt)
   move-small names linkLost =
       record {
-        few = omega (arith, link-most k, ok .rooms, seats-are);
+        few = link-room ok k;
         oneLong = omega (arith, link-short own (h .farm));
         short = omega arith;
       }
