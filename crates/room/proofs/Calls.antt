@@ -1,13 +1,12 @@
 -- How many entries a farm's calls make, by its open rows and its waiters; and under rule 4, by the rows that it owns.
 -- Assumes nothing.
-use Prim.Native.Nat.{ℕ, suc, _+_, _*_, _≤_}
+use Prim.Native.Nat.{ℕ, _+_, _*_, _≤_}
 use mathlib.Core.Path.{_≡_, refl, sym, ap, subst, _∙_}
-use mathlib.Core.Bool.{Bool, true, false}
+use mathlib.Core.Bool.{true}
 use mathlib.Core.List.{List, [], _∷_, _++_}
 use native.Mathlib.Omega.{arith}
 use lib.Dec.{eqb}
 use lib.ListN.{length, length-append, length-map, length-set, set, take}
-use Rattle.octets.specs.Choice.{pick}
 use Rattle.octets.specs.Search.{countIf}
 use Rattle.kinds.specs.declared.Fault.{Fault}
 use Rattle.kinds.specs.declared.Request.{Request}
@@ -25,7 +24,7 @@ use Rattle.model.specs.Row.{waitingRow, rowAt, isOpenState, isOpen, activeAs, o
 use Rattle.model.specs.Stream.{Event, inputEnded, wrong, finished, skipped, Taken}
 use Rattle.model.specs.Farm.{Farm, withRow, withLine, withMarks, Done, does, quietly, andThen, closed, closedWhere}
 use Rattle.model.specs.Line.{accepted, started, advanced, answered, settleLine, settle, isEmpty, joined, without, leftBy, left, marked, answersCheck, cleared, decide}
-use Rattle.model.specs.Bytes.{decidedBy, requested, toTarget, diagnosed, messaged, faulted, eventDone, heardRow, heard, bytesDone}
+use Rattle.model.specs.Bytes.{decidedBy, requested, toTarget, diagnosed, faulted, eventDone, heardRow, heard, bytesDone}
 use Rattle.model.specs.Move.{clockRun, aged, openRows, peerGone, linkGone, ticked}
 use Rattle.model.specs.Rule.{Good}
 use Rattle.model.proofs.Cases.{pick-case}

@@ -6,12 +6,10 @@ use mathlib.Core.Path.{_≡_, refl}
 use mathlib.Core.Bool.{Bool, true, false}
 use mathlib.Core.List.{List, [], _∷_}
 use native.Mathlib.Omega.{arith}
-use lib.Dec.{eqb, leb, ltb}
+use lib.Dec.{eqb, ltb}
 use lib.ListN.{length, set, take}
 use Rattle.octets.specs.Choice.{pick, one}
 use Rattle.octets.specs.Search.{countIf}
-use Rattle.octets.specs.declared.Found.{Found}
-use Rattle.octets.specs.declared.Found.the-variants.{At, Nothing}
 use Rattle.kinds.specs.declared.Answer.{Answer}
 use Rattle.kinds.specs.declared.Answer.the-variants.{Nothing as NoAnswer, With}
 use Rattle.kinds.specs.declared.Fault.{Fault}
@@ -34,7 +32,7 @@ use Rattle.model.specs.FarmSheet.{FarmSheet, TargetIs, stranger, unreachable, r
 use Rattle.model.specs.Row.{rowAt, isOpen, activeAs, atLimit}
 use Rattle.model.specs.Stream.{Stream, Event, inputEnded, wrong, finished, skipped, isStored, Fed, more, ends, judged, feedAt, feed, Taken, takesBy, takes}
 use Rattle.model.specs.Farm.{Farm, Done, does, andThen, says, closed, closedWhere}
-use Rattle.model.specs.Line.{decide, answered, joined, left, settle}
+use Rattle.model.specs.Line.{decide, left, settle}
 use Rattle.model.specs.Bytes.{decidedBy, requested, toTarget, diagnosed, faulted, eventDone, payloadBy, heard, bytesDone}
 use Rattle.model.specs.Move.{clockRun, aged, answers, peerGone, linkGone, ticked}
 use Rattle.model.specs.Rule.{PossibleAt}

@@ -28,7 +28,7 @@ use Rattle.model.specs.Rule.{Good}
 use Rattle.model.proofs.Cases.{pick-case, unless-case}
 use Rattle.model.proofs.RuleParts.{FarmOk}
 use Rattle.room.proofs.Calls.{ticked-most, peer-most, link-most, bytes-most}
-use Rattle.room.proofs.Long.{longs, bytes-one, peer-short, link-short, answers-few, longs-few, takes-fits}
+use Rattle.room.proofs.Long.{bytes-one, peer-short, link-short, answers-few, longs-few, takes-fits}
 
 -- ---- a farm's calls, each for itself
 

@@ -2,29 +2,28 @@
 -- Assumes nothing.
 use Prim.Native.Nat.{ℕ, zero, suc, _+_, _≤_}
 use mathlib.Core.Path.{_≡_, refl, sym, ap, subst, _∙_}
-use mathlib.Core.Bool.{Bool, true, false, false≢true}
+use mathlib.Core.Bool.{Bool, true, false}
 use mathlib.Core.List.{List, [], _∷_, _++_}
 use native.Mathlib.Omega.{arith}
 use lib.Dec.{eqb}
-use lib.ListN.{length, length-append, length-set, set, take}
-use borrow.Author.Tests.{eqb-true, eqb-false, eq-eqb, ne-eqb}
+use lib.ListN.{length, length-append, set, take}
+use borrow.Author.Tests.{eqb-true, eqb-false, eq-eqb}
 use Rattle.octets.specs.Choice.{one}
 use Rattle.octets.specs.Search.{countIf}
 use Rattle.octets.specs.Fold.{upTo}
-use Rattle.kinds.specs.declared.RowState.{RowState}
 use Rattle.kinds.specs.declared.Row.{Row}
 use Rattle.kinds.specs.declared.Check.{Check}
 use Rattle.kinds.specs.declared.Check.the-variants.{One, All}
 use Rattle.kinds.specs.declared.Decision.the-variants.{Ask}
 use Rattle.kinds.specs.declared.Reply.the-variants.{AliveCheck}
 use Rattle.model.specs.FarmSheet.{FarmSheet}
-use Rattle.model.specs.Row.{freeRow, rowAt, isOpen, isWaiting, isActive, activeAs}
+use Rattle.model.specs.Row.{freeRow, rowAt, isOpen, isWaiting, activeAs}
 use Rattle.model.specs.Farm.{Farm, seatCount, Done, does, quietly, andThen, eachSeat, says, closed, closedIf, closedWhere}
 use Rattle.model.specs.Line.{socketRules, asks, askedIf}
 use Rattle.model.specs.Move.{openRows}
 use Rattle.model.specs.Rule.{times, Good}
 use Rattle.model.proofs.Cases.{pick-case, split}
-use Rattle.model.proofs.Rows.{row-other, row-freed, count-free}
+use Rattle.model.proofs.Rows.{row-other, count-free}
 use Rattle.model.proofs.Seats.{seatsTo, seats-all}
 use Rattle.model.proofs.SoundRows.{active-open, as-active, waiting-open}
 use Rattle.model.proofs.SoundLine.{socket-case}

@@ -2,9 +2,9 @@
 -- Assumes nothing.
 use Prim.{Unit, tt}
 use Prim.Native.Nat.{ℕ, suc, _+_, _*_, _≤_, _<_}
-use mathlib.Core.Path.{_≡_, refl, sym, ap, subst, _∙_}
-use mathlib.Core.Bool.{Bool, true, false}
-use mathlib.Core.List.{List, [], _∷_, _++_}
+use mathlib.Core.Path.{_≡_, refl, ap}
+use mathlib.Core.Bool.{Bool, true}
+use mathlib.Core.List.{List, [], _∷_}
 use native.Mathlib.Omega.{arith}
 use lib.Dec.{eqb, leb, ltb}
 use lib.ListN.{length, length-append}
@@ -31,7 +31,7 @@ use Rattle.model.specs.FarmSheet.{FarmSheet, farmSheet, slotSheet}
 use Rattle.model.specs.RuleTest.{goodFarm}
 use Rattle.model.specs.Rule.{Good}
 use Rattle.model.specs.Move.{Own, connect, bytes, peerClosed, linkLost, datagram, controller, Held, Move, refused, gave, move, tickMove}
-use Rattle.model.specs.Table.{Table, slot, goodFrom, goodTable, Call, connectTo, bytesFrom, peerClosedOn, linkLostOf, tick, datagramTo, messageFrom, Lent, leastOutput as leastLent, assemblingSize, farms, ofFarm, ofOwner, whose, Outcome, refuses, did, movedTo, itemsBy, slotTick, tickItems, called, ifLent, step, startStep, itemsOf, longOf}
+use Rattle.model.specs.Table.{Table, slot, goodFrom, goodTable, Call, connectTo, bytesFrom, peerClosedOn, linkLostOf, tick, datagramTo, messageFrom, Lent, leastOutput as leastLent, assemblingSize, farms, ofFarm, ofOwner, whose, Outcome, refuses, did, movedTo, itemsBy, slotTick, tickItems, called, step, startStep, itemsOf, longOf}
 use Rattle.model.proofs.Cases.{pick-case, unless-case, split}
 use Rattle.model.proofs.RuleKept.{slot-ok, GoodAll, slot-good}
 use Rattle.model.proofs.RuleTestLaws.{farm-says}
@@ -64,11 +64,10 @@ module _ (s : List ℕ) (f : ℕ) (h : f < farmCount s) where
 -- rule 4 slot by slot
 good-all : (s : List ℕ) (f : ℕ) (t : Table) → goodFrom s f t ≡ true → GoodAll s f t
 good-all s f [] e = tt
-good-all s f (h ∷ t) e =
-    (
-      farm-says (slotSheet s f) (h .farm) .right (both-left (goodFarm (slotSheet s f) (h .farm)) (goodFrom s (suc f) t) e),
-      good-all s (suc f) t (both-right (goodFarm (slotSheet s f) (h .farm)) (goodFrom s (suc f) t) e),
-    )
+good-all s f (h ∷ t) e = (
+  farm-says (slotSheet s f) (h .farm) .right (both-left (goodFarm (slotSheet s f) (h .farm)) (goodFrom s (suc f) t) e),
+  good-all s (suc f) t (both-right (goodFarm (slotSheet s f) (h .farm)) (goodFrom s (suc f) t) e),
+)
 
 -- ---- a tick: three entries for each row of the sheet at most
 

@@ -1,14 +1,13 @@
 -- How many entries settling makes: as many as the farm's open rows, and two for each waiter, at most. For each closing there is one open
 -- row less; a waiter has one 0006; and once a check starts with its 0007s, settling ends, since the check is undecided.
 -- Assumes nothing.
-use Prim.Native.Nat.{ℕ, suc, _+_, _*_, _≤_}
+use Prim.Native.Nat.{ℕ, _+_, _*_, _≤_}
 use mathlib.Core.Path.{_≡_, refl, sym, ap, subst, _∙_}
 use mathlib.Core.Bool.{Bool}
 use mathlib.Core.List.{List, [], _∷_}
 use native.Mathlib.Omega.{arith}
 use lib.Dec.{eqb, leb}
 use lib.ListN.{length, length-set}
-use Rattle.octets.specs.Choice.{one}
 use Rattle.kinds.specs.declared.Row.{Row}
 use Rattle.kinds.specs.declared.Check.{Check}
 use Rattle.kinds.specs.declared.Decision.{Decision}
