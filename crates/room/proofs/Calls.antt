@@ -20,7 +20,7 @@ use Rattle.wire.specs.declared.payload.Ends.{Ends as Parties}
 use Rattle.wire.specs.Header.{closes}
 use Rattle.wire.specs.Payload.{requestIn, addressIn, endsIn}
 use Rattle.model.specs.FarmSheet.{FarmSheet, TargetIs, stranger, unreachable, reachable}
-use Rattle.model.specs.Row.{waitingRow, rowAt, isOpenState, isOpen, activeAs, olderState, older, atLimit, heardState}
+use Rattle.model.specs.Row.{waitingRow, rowAt, isOpenState, isOpen, activeAs, olderState, older, atLimit}
 use Rattle.model.specs.Stream.{Event, inputEnded, wrong, finished, skipped, Taken}
 use Rattle.model.specs.Farm.{Farm, withRow, withLine, withMarks, Done, does, quietly, andThen, closed, closedWhere}
 use Rattle.model.specs.Line.{accepted, started, advanced, answered, settleLine, settle, isEmpty, joined, without, leftBy, left, marked, answersCheck, cleared, decide}
@@ -33,16 +33,11 @@ use Rattle.model.proofs.SoundRows.{limit-open}
 use Rattle.model.proofs.SoundClose.{closings-line}
 use Rattle.model.proofs.SoundLine.{advanced-line}
 use Rattle.model.proofs.Settling.{started-farm}
+use Rattle.model.proofs.MeterMove.{heard-open}
 use Rattle.room.proofs.Open.{count-put, open-within, line-within, then-length, Costs, closings-cost}
 use Rattle.room.proofs.Settled.{Seated, closings-seated, closed-seated, closed-costs, answered-seated, answered-costs, started-few, advanced-few, line-few, settle-few}
 
--- ---- what a row's bytes and its age leave open
-
-heard-open : (n : ℕ) (s : RowState) → isOpenState (heardState n s) ≡ isOpenState s
-heard-open n Free = refl
-heard-open n (Fresh c) = refl
-heard-open n (Waiting q) = refl
-heard-open n (Active a c) = refl
+-- ---- what a call does before anything is said
 
 older-open : (s : RowState) → isOpenState (olderState s) ≡ isOpenState s
 older-open Free = refl

@@ -1,14 +1,14 @@
 -- At most one entry of a call holds lent bytes, and these are 2,048 at most.
 -- Assumes nothing.
 use Prim.{Unit, tt}
-use Prim.Native.Nat.{ℕ, zero, suc, _+_, _≤_}
+use Prim.Native.Nat.{ℕ, _+_, _≤_}
 use mathlib.Core.Path.{_≡_, refl}
 use mathlib.Core.Bool.{Bool, true, false}
 use mathlib.Core.List.{List, [], _∷_}
 use native.Mathlib.Omega.{arith}
 use lib.Dec.{eqb, ltb}
-use lib.ListN.{length, set, take}
-use Rattle.octets.specs.Choice.{pick, one}
+use lib.ListN.{length, length-take, set, take}
+use Rattle.octets.specs.Choice.{pick}
 use Rattle.octets.specs.Search.{countIf}
 use Rattle.kinds.specs.declared.Answer.{Answer}
 use Rattle.kinds.specs.declared.Answer.the-variants.{Nothing as NoAnswer, With}
@@ -38,6 +38,7 @@ use Rattle.model.specs.Move.{clockRun, aged, answers, peerGone, linkGone, ticke
 use Rattle.model.specs.Rule.{PossibleAt}
 use Rattle.model.proofs.Cases.{pick-case}
 use Rattle.model.proofs.HandOnNone.{said, None, said-append, none-quiet, none-one, none-then, none-closed, none-closings, none-joined, none-left, none-answered, none-settle}
+use Rattle.model.proofs.SoundRows.{one-small}
 use Rattle.model.proofs.SoundStream.{PossibleIn, takes-well}
 
 -- ---- at most one
@@ -131,18 +132,9 @@ answers-few (With reply) = omega arith
 pub longs-few : (items : List Item) → longs items ≤ length items
 unfolding countIf
 longs-few [] = omega arith
-longs-few (it ∷ items) = by (isLong (it .reply)) (longs-few items)
-  where
-    by : (b : Bool) → longs items ≤ length items → one b + longs items ≤ suc (length items)
-    by true h = omega arith
-    by false h = omega arith
+longs-few (it ∷ items) = omega (arith, one-small (isLong (it .reply)), longs-few items)
 
 -- ---- a payload that is handed on is no longer than a header may announce
-
-take-short : (n : ℕ) (l : List ℕ) → length (take n l) ≤ n
-take-short zero l = omega arith
-take-short (suc n) [] = omega arith
-take-short (suc n) (x ∷ l) = omega (arith, take-short n l)
 
 abbrev Fits : Event → Type 0
 Fits e = (room : List ℕ) → length (payloadBy e room) ≤ mostPayload
@@ -155,7 +147,7 @@ finished-fits : (kind size : ℕ) → size ≤ mostPayload → Fits (finished ki
 finished-fits kind size h room = by (isStored kind)
   where
     by : (b : Bool) → length (pick b (take size room) []) ≤ mostPayload
-    by true = omega (arith, take-short size room)
+    by true = omega (arith, length-take size room)
     by false = omega arith
 
 fed-fits : (p : Place) (head room : List ℕ) (byte : ℕ) → PossibleAt p head → FedFits (feedAt p head room byte)

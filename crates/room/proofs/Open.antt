@@ -25,20 +25,16 @@ use Rattle.model.specs.Rule.{times, Good}
 use Rattle.model.proofs.Cases.{pick-case, split}
 use Rattle.model.proofs.Rows.{row-other, count-free}
 use Rattle.model.proofs.Seats.{seatsTo, seats-all}
-use Rattle.model.proofs.SoundRows.{active-open, as-active, waiting-open}
+use Rattle.model.proofs.SoundRows.{one-small, active-open, as-active, waiting-open}
 use Rattle.model.proofs.SoundLine.{socket-case}
 
 -- ---- counts
-
-at-most : (b : Bool) → one b ≤ 1
-at-most true = omega arith
-at-most false = omega arith
 
 -- a row that is stored makes one more at most
 pub count-put : (p : Row → Bool) (rows : List Row) (i : ℕ) (x : Row) → countIf p (set rows i x) ≤ countIf p rows + 1
 unfolding countIf
 count-put p [] i x = omega arith
-count-put p (y ∷ rows) zero x = omega (arith, at-most (p x))
+count-put p (y ∷ rows) zero x = omega (arith, one-small (p x))
 count-put p (y ∷ rows) (suc i) x = omega (arith, count-put p rows i x)
 
 -- where none passes from the n-th on, n pass at most
@@ -47,7 +43,7 @@ unfolding countIf
 count-within p [] n h = omega arith
 count-within p (x ∷ rows) zero h =
     let z : one (p x) ≡ 0 = ap one (h 0 (omega arith)) in omega (arith, count-within p rows zero (λ i k. h (suc i) (omega arith)))
-count-within p (x ∷ rows) (suc n) h = omega (arith, at-most (p x), count-within p rows n (λ i k. h (suc i) (omega arith)))
+count-within p (x ∷ rows) (suc n) h = omega (arith, one-small (p x), count-within p rows n (λ i k. h (suc i) (omega arith)))
 
 -- a list in which no seat stands twice, and only seats whose rows pass
 pub count-line : (p : Row → Bool) → p freeRow ≡ false → (line : List ℕ) (rows : List Row)
@@ -56,12 +52,12 @@ unfolding countIf
 count-line p e [] rows h = omega arith
 count-line p e (x ∷ line) rows h =
     let here : one (eqb x x) ≡ 1 = ap one (eq-eqb x x refl) in
-    omega (arith, h x, count-free p e rows x, count-line p e line (set rows x freeRow) rest, at-most (p (rowAt rows x)))
+    omega (arith, h x, count-free p e rows x, count-line p e line (set rows x freeRow) rest, one-small (p (rowAt rows x)))
   where
     rest : (i : ℕ) → times i line ≤ one (p (rowAt (set rows x freeRow) i))
     rest i =
         split (eqb i x)
-        (λ u. let here : one (eqb i x) ≡ 1 = ap one u in omega (arith, h i, at-most (p (rowAt rows i))))
+        (λ u. let here : one (eqb i x) ≡ 1 = ap one u in omega (arith, h i, one-small (p (rowAt rows i))))
         (λ u. let same : one (p (rowAt (set rows x freeRow) i)) ≡ one (p (rowAt rows i)) = ap (λ r. one (p r)) (row-other rows x i freeRow (eqb-false i x u)) in
         omega (arith, h i))
 
