@@ -2,13 +2,18 @@
 -- Assumes nothing.
 use Prim.Native.Nat.{ℕ, _+_, _≤_}
 use mathlib.Core.Path.{_≡_, refl, sym, ap, subst, _∙_}
-use mathlib.Core.List.{List, [], _∷_, _++_, append-assoc}
+use mathlib.Core.Bool.{true}
+use mathlib.Core.List.{List, [], _∷_, _++_, append-assoc, append-nil}
 use native.Mathlib.Nat.{le-antisymm}
 use native.Mathlib.Numerals.{add-one}
+use native.Mathlib.Omega.{arith}
+use lib.Dec.{ltb}
+use lib.ListN.{length, length-append}
+use borrow.Author.Tests.{lt-ltb}
 use Rattle.kinds.specs.declared.Item.{Item}
 use Rattle.model.specs.Farm.{Farm, Done, does, quietly, andThen, eachSeat, seatCount}
 use Rattle.model.proofs.Seats.{seatsTo, seats-zero, seats-suc, seats-all}
-use Rattle.outsheet.specs.Plan.{itemsOf, PlanOk, Said, pushedTo}
+use Rattle.outsheet.specs.Plan.{planRoom, itemsOf, PlanOk, Said, pushedTo}
 use Rattle.table.specs.Block.{farmOf, Whole, Holds}
 use Rattle.rowwork.specs.Did.{pushedAll, Did}
 
@@ -26,6 +31,17 @@ pub pushed-append : (items more last : List Item) → pushedAll (pushedAll items
 unfolding pushedAll
 pushed-append items [] last = refl
 pushed-append items (it ∷ more) last = pushed-append (pushedTo items it) more last
+
+-- where the plan has room for all of them, they stand behind those before; the crate `room` shows that it always has
+pub pushed-room : (before items : List Item) → length before + length items ≤ planRoom → pushedAll before items ≡ before ++ items
+unfolding pushedAll pushedTo
+pushed-room before [] h = sym (append-nil before)
+pushed-room before (it ∷ more) h =
+    let room : ltb (length before) planRoom ≡ true = lt-ltb (length before) planRoom (omega arith) in
+    rw room (pushed-room (before ++ it ∷ []) more (omega (arith, length-append before (it ∷ []))) ∙ append-assoc before (it ∷ []) more)
+
+pub pushed-first : (items : List Item) → length items ≤ planRoom → pushedAll [] items ≡ items
+pushed-first items h = pushed-room [] items (omega arith)
 
 -- ---- one thing after another
 

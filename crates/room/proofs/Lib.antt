@@ -1,0 +1,6 @@
+pub mod Open
+pub mod Settled
+pub mod Calls
+pub mod Long
+pub mod Moves
+pub mod Roomy
