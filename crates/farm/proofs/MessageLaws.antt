@@ -1,6 +1,6 @@
 -- A controller's message, a case at a time.
 -- Assumes nothing.
-use Prim.Native.Nat.{ℕ, _+_}
+use Prim.Native.Nat.{ℕ}
 use mathlib.Core.Path.{_≡_, refl, sym, ap, _∙_}
 use mathlib.Core.Bool.{Bool, true, false}
 use mathlib.Core.List.{List, [], _∷_}
@@ -13,7 +13,6 @@ use Rattle.octets.specs.Search.{firstAt}
 use Rattle.kinds.specs.declared.Item.{Item}
 use Rattle.kinds.specs.declared.Site.{Site}
 use Rattle.kinds.specs.declared.Reply.the-variants.{Message}
-use Rattle.wire.specs.Header.{ourVersion}
 use Rattle.sheet.specs.declared.find.Known.{Known}
 use Rattle.sheet.specs.declared.find.Found.the-variants.{Is}
 use Rattle.model.specs.FarmSheet.{FarmSheet, TargetIs, stranger, reachable, unreachable, targetBy, farmSheet}
@@ -85,7 +84,7 @@ module _ (s : List ℕ) (f : ℕ) (farm : Farm) (p : List ℕ) (from to : ℕ) (
       → Said after (pushedTo (itemsOf p) (says (siteSheet site) seat (Message from to))) → Messaged s f farm p after from to user 0
   messaged-said site at after seat e said =
       let same : says (siteSheet site) seat (Message from to) ≡ says (farmSheet s f) seat (Message from to) =
-      ap (λ (n : ℕ). record { row = record { 0 = n + seat }; version = ourVersion; reply = Message from to }) (sited-same s f site at .first)
+      rw (sited-same s f site at .first)
       in
       record {
         number = λ rooms. sym (ap numberBy (e rooms));

@@ -11,6 +11,7 @@ use Rattle.kinds.specs.declared.Row.{Row}
 use Rattle.model.specs.Row.{freeRow, isFree}
 use Rattle.table.specs.Block.{farmOf}
 use Rattle.farm.proofs.RowsLaws.{own-many}
+use borrow.Author.Needs.{needs}
 use Rattle.farm.proofs.connect.free_row.Statement.{statement}
 use Rattle.farm.proofs.connect.free_row.Tie as tie
 

@@ -25,7 +25,7 @@ returns c = sym (ap (λ (x : Found). isTarget (targetBy (c .before .before .befo
 returns-2 : tie.Need-returns-2
 unfolding farmSheet
 returns-2 c = let f = c .before .before .before .before .before .before .before .args .f .0 in
-    target-known f _ ∙ sym (ap (λ (x : Found). isTarget (targetBy f x)) (sym (c .before .before .before .before .before .find-target .ensures) ∙ c .before .before .before .found .given .1))
+    target-known f (c .before .before .before .found .given .0 .0) ∙ sym (ap (λ (x : Found). isTarget (targetBy f x)) (sym (c .before .before .before .before .before .find-target .ensures) ∙ c .before .before .before .found .given .1))
 
 pub is-target-spec : {M : Type 1} → statement M
 is-target-spec =

@@ -3,6 +3,7 @@
 use mathlib.Core.Path.{_≡_, sym, _∙_}
 use mathlib.Core.Bool.{true, false}
 use native.Mathlib.Omega.{arith}
+use borrow.Author.Tests.{not-true, not-false}
 use lib.ListN.{length}
 use Rattle.octets.specs.declared.Found.the-variants.{At, Nothing}
 use Rattle.model.specs.FarmSheet.{FarmSheet, farmSheet}
@@ -24,7 +25,7 @@ returns c = let s = c .before .before .before .before .before .before in
     let farm = farmOf (a .b .now) in
     let own : FarmSheet = farmSheet (a .s .now) (a .f .0) in
     messaged-refused (a .s .now) (a .f .0) farm (a .p .now) (a .from) (a .to) (a .user .now) 9
-    (λ rooms. wrong-size own (record { farm = farm; rooms = rooms }) (a .from) (a .to) (a .user .now) (sym (c .before .size-fits .ensures) ∙ c .if1 .taken)) (s .pre .2)
+    (λ rooms. wrong-size own (record { farm = farm; rooms = rooms }) (a .from) (a .to) (a .user .now) (sym (c .before .size-fits .ensures) ∙ not-true _ (c .if1 .taken))) (s .pre .2)
 
 is-target-requires : tie.Need-is-target-requires
 is-target-requires c κs = search needs
@@ -35,7 +36,7 @@ returns-2 c = let s = c .before .before .before .before .before .before .before 
     let farm = farmOf (a .b .now) in
     let own : FarmSheet = farmSheet (a .s .now) (a .f .0) in
     messaged-refused (a .s .now) (a .f .0) farm (a .p .now) (a .from) (a .to) (a .user .now) 10
-    (λ rooms. no-target own (record { farm = farm; rooms = rooms }) (a .from) (a .to) (a .user .now) (sym (c .before .before .before .size-fits .ensures) ∙ c .before .before .if1 .left) (sym (c .before .is-target .ensures) ∙ c .if2 .taken)) (s .pre .2)
+    (λ rooms. no-target own (record { farm = farm; rooms = rooms }) (a .from) (a .to) (a .user .now) (sym (c .before .before .before .size-fits .ensures) ∙ not-false _ (c .before .before .if1 .left)) (sym (c .before .is-target .ensures) ∙ not-true _ (c .if2 .taken))) (s .pre .2)
 
 holder-requires : tie.Need-holder-requires
 holder-requires c κs = search needs
@@ -52,7 +53,7 @@ returns-3 c = let s = c .before .before .before .before .before .before .before 
     let farm = farmOf (a .b .now) in
     let own : FarmSheet = farmSheet (a .s .now) (a .f .0) in
     messaged-refused (a .s .now) (a .f .0) farm (a .p .now) (a .from) (a .to) (a .user .now) 10
-    (λ rooms. for-tester own (record { farm = farm; rooms = rooms }) (a .from) (a .to) (a .user .now) (sym (c .before .before .before .before .before .before .size-fits .ensures) ∙ c .before .before .before .before .before .if1 .left) (sym (c .before .before .before .before .is-target .ensures) ∙ c .before .before .before .if2 .left) Nothing (sym (c .before .before .holder .ensures) ∙ c .enum-told .given .1)) (s .pre .2)
+    (λ rooms. for-tester own (record { farm = farm; rooms = rooms }) (a .from) (a .to) (a .user .now) (sym (c .before .before .before .before .before .before .size-fits .ensures) ∙ not-false _ (c .before .before .before .before .before .if1 .left)) (sym (c .before .before .before .before .is-target .ensures) ∙ not-false _ (c .before .before .before .if2 .left)) Nothing (sym (c .before .before .holder .ensures) ∙ c .enum-told .given .1)) (s .pre .2)
 
 say-requires : tie.Need-say-requires
 say-requires c κs = let s = c .before .before .before .before .before .before .before .before .before .before .before .before .before in
@@ -69,7 +70,7 @@ returns-4 c = let s = c .before .before .before .before .before .before .before 
     let farm = farmOf (a .b .now) in
     let own : FarmSheet = farmSheet (a .s .now) (a .f .0) in
     messaged-said (a .s .now) (a .f .0) farm (a .p .now) (a .from) (a .to) (a .user .now) (a .site) (s .pre .1) _ _
-    (λ rooms. for-tester own (record { farm = farm; rooms = rooms }) (a .from) (a .to) (a .user .now) (sym (c .before .before .before .before .before .before .before .before .before .before .before .size-fits .ensures) ∙ c .before .before .before .before .before .before .before .before .before .before .if1 .left) (sym (c .before .before .before .before .before .before .before .before .before .is-target .ensures) ∙ c .before .before .before .before .before .before .before .before .if2 .left) _ (sym (c .before .before .before .before .before .before .before .holder .ensures) ∙ c .before .before .before .before .before .holder2 .given .1)) (c .before .before .say .ensures)
+    (λ rooms. for-tester own (record { farm = farm; rooms = rooms }) (a .from) (a .to) (a .user .now) (sym (c .before .before .before .before .before .before .before .before .before .before .before .size-fits .ensures) ∙ not-false _ (c .before .before .before .before .before .before .before .before .before .before .if1 .left)) (sym (c .before .before .before .before .before .before .before .before .before .is-target .ensures) ∙ not-false _ (c .before .before .before .before .before .before .before .before .if2 .left)) _ (sym (c .before .before .before .before .before .before .before .holder .ensures) ∙ c .before .before .before .before .before .holder2 .given .1)) (c .before .before .say .ensures)
 
 pub message-spec : {M : Type 1} → statement M
 message-spec =

@@ -6,6 +6,7 @@ use native.Mathlib.Omega.{arith}
 use Rattle.model.specs.Farm.{withRows}
 use Rattle.table.specs.Block.{farmOf, Holds}
 use Rattle.farm.proofs.TickLaws.{firstOlder, aged-none, aged-next, aged-all}
+use borrow.Author.Needs.{needs}
 use Rattle.farm.proofs.tick.age_rows.Statement.{statement}
 use Rattle.farm.proofs.tick.age_rows.Tie as tie
 
