@@ -21,10 +21,10 @@ use Rattle.kinds.specs.declared.Decision.the-variants.{Now, Ask}
 use Rattle.kinds.specs.declared.HeadVerdict.{HeadVerdict}
 use Rattle.kinds.specs.declared.HeadVerdict.the-variants.{Pending, Answer, RunOut}
 use Rattle.model.specs.FarmSheet.{FarmSheet}
-use Rattle.model.specs.Row.{rowAt, isActive, activeAs, wanted}
+use Rattle.model.specs.Row.{rowAt, isOpen, isActive, activeAs, wanted, atLimit}
 use Rattle.model.specs.Farm.{Farm, withMarks, withRow, withLine, Done, does, quietly, andThen, eachSeat, seatCount, says, closed, closedIf, closedWhere}
 use Rattle.model.specs.Line.{accepted, byPlaces, byHolder, socketRules, asks, isSilent, askedIf, asking, cleared, startedBy, started, advanced, answered, verdictBy, headVerdict, serve, settleLine, settle, joined, leftBy, left, askedBy, askedIn, isAsked, marked}
-use Rattle.model.proofs.Cases.{split}
+use Rattle.model.specs.Move.{peerGone, linkGone, clockRun, aged, ticked}
 use Rattle.model.proofs.Seats.{seatsTo, seats-zero, seats-suc, seats-all}
 
 pub record SameSite (a b : FarmSheet) : Type 0 where
@@ -147,3 +147,26 @@ module _ (a b : FarmSheet) (same : SameSite a b) where
   pub marked-same : (seat address : ℕ) (f : Farm) → marked a seat address f ≡ marked b seat address f
   unfolding marked isAsked
   marked-same seat address f = rw (asked-in-same f (f .line) seat)
+
+  -- ---- the calls of one farm that only move it
+
+  pub peer-same : (seat : ℕ) (f : Farm) → peerGone a seat f ≡ peerGone b seat f
+  unfolding peerGone
+  peer-same seat f =
+      then-same _ _ (settle a) (settle b)
+      (then-same (closed a seat f) (closed b seat f) (left a seat) (left b seat) (closed-same seat f) (left-same seat))
+      settle-same
+
+  pub link-same : (f : Farm) → linkGone a f ≡ linkGone b f
+  unfolding linkGone
+  link-same f =
+      let gone : Farm → Done = λ g. quietly (cleared (withLine g [])) in
+      then-same (closedWhere a (λ seat r. isOpen r) f) (closedWhere b (λ seat r. isOpen r) f) gone gone (closings-same (λ seat r. isOpen r) f)
+      (λ g. refl)
+
+  pub ticked-same : (f : Farm) → ticked a f ≡ ticked b f
+  unfolding ticked
+  ticked-same f =
+      let g : Farm = aged (clockRun (f .line) f) in
+      then-same (closedWhere a (λ seat r. atLimit r) g) (closedWhere b (λ seat r. atLimit r) g) (settle a) (settle b)
+      (closings-same (λ seat r. atLimit r) g) settle-same

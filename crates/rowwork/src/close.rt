@@ -74,7 +74,7 @@ pub fn close(b: &mut [u8], p: &mut [u8], site: Site, i: usize)
 
 // ---- all rows that are to close
 
-fn is_open(s: RowState) -> bool
+pub fn is_open(s: RowState) -> bool
     ensures { λ r. ⌜ r ≡ isOpenState s ⌝ }
 {
     match s {

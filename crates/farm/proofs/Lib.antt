@@ -1,0 +1,4 @@
+pub mod RowsLaws
+pub mod TickLaws
+pub mod SeatedLaws
+pub mod MessageLaws

@@ -1,0 +1,32 @@
+// Rows that close from outside: their peer has closed, or the farm's link is lost.
+ghost use Prim.Native.Nat.{_<_};
+ghost use Rattle.model.specs.Move.{peerGone, linkGone};
+ghost use Rattle.outsheet.specs.Plan.{PlanOk};
+ghost use Rattle.table.specs.Layout.{seats};
+ghost use Rattle.table.specs.Block.{farmOf, Whole};
+ghost use Rattle.rowwork.specs.Did.{siteSheet, RowsFit, Seated, Did};
+use kinds::Site;
+use line::join;
+use line::settle;
+use rowwork::check;
+use rowwork::close;
+
+// "Peer closed gives one close for that row."
+pub fn peer_closed(b: &mut [u8], p: &mut [u8], site: Site, seat: usize)
+    requires { ⌜ (seat < seats) × Seated (farmOf (now b) .line) × RowsFit site × Whole (now b) × PlanOk (now p) ⌝ }
+    ensures { λ _. ⌜ Did (now (p .entry)) (now (b .exit)) (now (p .exit)) (peerGone (siteSheet site) seat (farmOf (now (b .entry)))) ⌝ }
+{
+    close::close(b, p, site, seat);
+    join::leave_line(b, p, site, seat);
+    settle::settle(b, p, site);
+}
+
+// "Link lost: one close per open row, lowest first." Every row is closed, so the line is empty.
+pub fn link_lost(b: &mut [u8], p: &mut [u8], site: Site)
+    requires { ⌜ RowsFit site × Whole (now b) × PlanOk (now p) ⌝ }
+    ensures { λ _. ⌜ Did (now (p .entry)) (now (b .exit)) (now (p .exit)) (linkGone (siteSheet site) (farmOf (now (b .entry)))) ⌝ }
+{
+    close::close_open(b, p, site);
+    table::line::clear_line(b);
+    check::clear(b);
+}

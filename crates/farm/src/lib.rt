@@ -1,0 +1,6 @@
+// The moves of one farm on its own block of the lent table: each is the model's move.
+pub mod ask; // ask.rt: what is asked of a farm's rows
+pub mod closed; // closed.rt: peer closed, link lost
+pub mod connect; // connect.rt: a free row opens
+pub mod controller; // controller.rt: a message from a controller
+pub mod tick; // tick.rt: 10 ms later
