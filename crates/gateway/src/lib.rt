@@ -2,5 +2,6 @@
 // the assembling buffer, the input. No call asks anything of what it is lent: what it can't serve it refuses by document 01's number, and
 // then nothing lent has changed.
 pub mod answer; // answer.rt: a refusal, and the output sheet of a call that is done
+pub mod closed; // closed.rt: peer closed, link lost
 pub mod gate; // gate.rt: refusals 1 to 4
 pub mod start; // start.rt: a fresh table

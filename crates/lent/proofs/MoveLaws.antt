@@ -21,7 +21,7 @@ use Rattle.model.specs.Table.{Table, slot}
 use Rattle.table.specs.Layout.{blockSize}
 use Rattle.table.specs.Block.{farmOf, image, Whole, Holds}
 use Rattle.table.proofs.BlockLaws.{exact}
-use Rattle.lent.specs.Lent.{block, tableSize, wholeTable, heldAt, lentTable}
+use Rattle.lent.specs.Lent.{block, Only, tableSize, wholeTable, heldAt, lentTable}
 use Rattle.lent.proofs.LentLaws.{block-own, block-other, table-put, slot-is}
 use Rattle.lent.proofs.BytesLaws.{Exact, whole-exact}
 
@@ -31,11 +31,6 @@ same-by false g f e = inr (λ k. never (sym e ∙ says-eq g f .all k))
 
 same-or-not : (g f : ℕ) → (g ≡ f) ⊎ (g ≡ f → ⊥)
 same-or-not g f = same-by (eqb g f) g f refl
-
--- only the block of farm f is another
-pub record Only (f : ℕ) (t after : List ℕ) : Type 0 where
-  pub long : length (block after f) ≡ blockSize
-  pub put : after ≡ putAt t (f * blockSize) (block after f)
 
 -- a function was lent the block and left b there
 pub lent-back : (t b : List ℕ) (f e : ℕ) → length t ≡ tableSize → f < mostFarms → e ≡ f * blockSize + blockSize → length b ≡ blockSize

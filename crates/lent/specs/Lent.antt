@@ -25,6 +25,11 @@ tableSize = mostFarms * blockSize
 abbrev pub block : List ℕ → ℕ → List ℕ
 block t f = part t (f * blockSize) blockSize
 
+-- only the block of farm f is another
+pub record Only (f : ℕ) (t after : List ℕ) : Type 0 where
+  pub long : length (block after f) ≡ blockSize
+  pub put : after ≡ putAt t (f * blockSize) (block after f)
+
 -- bytes that are those of no table: an unknown tag, a mark that is neither 0 nor 1, something where nothing is (DECISIONS, A6 and D5)
 unfoldable pub wholeTable : List ℕ → Bool
 wholeTable t = everyBelow (λ f. wholeBlock (block t f)) mostFarms
