@@ -3,8 +3,7 @@
 use mathlib.Core.Path.{_≡_, refl, sym, ap, _∙_}
 use mathlib.Core.Bool.{Bool, true, false}
 use mathlib.Core.List.{List, [], _∷_, _++_, map}
-use Prim.Native.Nat.{ℕ, zero, suc, _+_, _*_, _/_, _%_, _≤_, _<_}
-use native.Mathlib.Numerals.{add-one}
+use Prim.Native.Nat.{ℕ, zero, suc, _+_, _*_, _/_, _%_, _≤_, _<_, min}
 use native.Mathlib.Omega.{arith}
 use lib.Dec.{ltb}
 use lib.ListN.{length, getD, set, take, replicate, length-map, length-append, length-set, length-replicate, List·getD-map}
@@ -20,7 +19,7 @@ use Rattle.octets.proofs.PartsLaws.{part-same, parts-before, parts-snoc, parts-
 use Rattle.kinds.specs.declared.Reply.{Reply}
 use Rattle.kinds.specs.declared.Reply.the-variants.{Nack, Identity, Activation, AliveCheck, Status, PowerMode, Message, Ack, DiagnosticNack, Close, HandOn}
 use Rattle.kinds.specs.declared.Item.{Item}
-use Rattle.outsheet.specs.Plan.{planRoom, itemSize, planSize, replyImage, itemImage, replyFrom, itemFrom, itemsOf, noItem, PlanOk, Said, pushedTo}
+use Rattle.outsheet.specs.Plan.{planRoom, itemSize, planSize, replyImage, itemImage, replyFrom, itemFrom, itemAt, countOf, itemsOf, noItem, PlanOk, Said, pushedTo}
 
 -- ---- an item and its bytes
 
@@ -57,27 +56,33 @@ pub item-back : (it : Item) → itemFrom (itemImage it) ≡ it
 unfolding itemFrom
 item-back it = rw (reply-back (it .reply))
 
-pub count-items : (p : List ℕ) → length (itemsOf p) ≡ getD p 0 0
+pub count-items : (p : List ℕ) → length (itemsOf p) ≡ countOf p
 unfolding itemsOf
-count-items p = length-map (parts itemSize 1 (getD p 0 0) p) itemFrom ∙ parts-length itemSize 1 (getD p 0 0) p
+count-items p = length-map (parts itemSize 1 (countOf p) p) itemFrom ∙ parts-length itemSize 1 (countOf p) p
 
-pub items-few : (p : List ℕ) → PlanOk p → length (itemsOf p) ≤ planRoom
-items-few p ok = omega (arith, count-items p, ok .few)
+pub items-few : (p : List ℕ) → length (itemsOf p) ≤ planRoom
+items-few p = omega (arith, count-items p)
+
+-- the items that the plan says are those at the places below its count
+pub item-said : (p : List ℕ) (i : ℕ) → i < length (itemsOf p) → getD (itemsOf p) i noItem ≡ itemAt p i
+unfolding itemsOf
+item-said p i h =
+    List·getD-map itemFrom (parts itemSize 1 (countOf p) p) i []
+    ∙ ap itemFrom (parts-get itemSize 1 (countOf p) i p (omega (arith, h, count-items p)))
 
 at-part : (p : List ℕ) (at k m : ℕ) → k < itemSize → m ≡ at + k → getD (part p at itemSize) k 0 ≡ getD p m 0
 at-part p at k m h e = getD-part p at itemSize k h ∙ ap (λ (j : ℕ). getD p j 0) (sym e)
 
 -- the item at a place, read byte by byte
-pub item-read : (p : List ℕ) (i at : ℕ) → i < getD p 0 0 → at ≡ 1 + i * itemSize
+pub item-read : (p : List ℕ) (i at : ℕ) → at ≡ 1 + i * itemSize
     → record {
       row = record { 0 = getD p at 0 };
       version = getD p (at + 1) 0;
       reply = replyFrom (getD p (at + 2) 0) (getD p (at + 3) 0) (u16At p (at + 4)) (u16At p (at + 6));
     }
-    ≡ getD (itemsOf p) i noItem
-unfolding itemsOf itemFrom
-item-read p i at h e =
-    let s = part p at itemSize in
+    ≡ itemAt p i
+unfolding itemFrom
+item-read p i at e =
     let e0 = at-part p at 0 at (omega arith) (omega arith) in
     let e1 = at-part p at 1 (at + 1) (omega arith) refl in
     let e2 = at-part p at 2 (at + 2) (omega arith) refl in
@@ -86,12 +91,7 @@ item-read p i at h e =
     let e5 = at-part p at 5 (at + 4 + 1) (omega arith) (omega arith) in
     let e6 = at-part p at 6 (at + 6) (omega arith) refl in
     let e7 = at-part p at 7 (at + 6 + 1) (omega arith) (omega arith) in
-    let same : itemFrom s ≡ getD (map itemFrom (parts itemSize 1 (getD p 0 0) p)) i noItem =
-    ap (λ (k : ℕ). itemFrom (part p k itemSize)) e
-    ∙ ap itemFrom (sym (parts-get itemSize 1 (getD p 0 0) i p h))
-    ∙ sym (List·getD-map itemFrom (parts itemSize 1 (getD p 0 0) p) i [])
-    in
-    rw (← e0, ← e1, ← e2, ← e3, ← e4, ← e5, ← e6, ← e7) same
+    rw (← e0, ← e1, ← e2, ← e3, ← e4, ← e5, ← e6, ← e7) (ap (λ (k : ℕ). itemFrom (part p k itemSize)) e)
 
 -- ---- the count
 
@@ -107,8 +107,8 @@ pub none-said : (p : List ℕ) → length p ≡ planSize → getD p 0 0 ≡ 0 �
 unfolding itemsOf parts
 none-said p l e =
     record {
-      is = ap (λ (n : ℕ). map itemFrom (parts itemSize 1 n p)) e;
-      ok = record { long = l; few = omega arith };
+      is = ap (λ (n : ℕ). map itemFrom (parts itemSize 1 (min n planRoom) p)) e;
+      ok = record { long = l };
     }
 
 -- an array of zeros is a plan of no items
@@ -167,18 +167,21 @@ module _ (p q r : List ℕ) (it : Item) (w : PlanOk p) (h : getD p 0 0 < planRoo
   pub push-more : Said r (pushedTo (itemsOf p) it)
   unfolding itemsOf
   push-more =
-      let all : parts itemSize 1 (getD r 0 0) r ≡ parts itemSize 1 (getD p 0 0) p ++ (itemImage it ∷ []) =
-      ap (λ (k : ℕ). parts itemSize 1 k r) (count ∙ add-one (getD p 0 0))
+      let more : countOf r ≡ suc (getD p 0 0) = omega (arith, count, h) in
+      let same : getD p 0 0 ≡ countOf p = omega (arith, h) in
+      let all : parts itemSize 1 (countOf r) r ≡ parts itemSize 1 (countOf p) p ++ (itemImage it ∷ []) =
+      ap (λ (k : ℕ). parts itemSize 1 k r) more
       ∙ parts-snoc itemSize 1 (getD p 0 0) r
       ∙ ap (λ t. parts itemSize 1 (getD p 0 0) r ++ (t ∷ [])) last
       ∙ ap (λ t. t ++ (itemImage it ∷ [])) before
+      ∙ ap (λ (k : ℕ). parts itemSize 1 k p ++ (itemImage it ∷ [])) same
       in
       record {
         is = ap (map itemFrom) all
-            ∙ map-snoc itemFrom (parts itemSize 1 (getD p 0 0) p) (itemImage it)
+            ∙ map-snoc itemFrom (parts itemSize 1 (countOf p) p) (itemImage it)
             ∙ ap (λ t. itemsOf p ++ (t ∷ [])) (item-back it)
             ∙ sym (pushed-room (itemsOf p) it (omega (arith, count-items p)));
-        ok = record { long = ap length er ∙ length-set q 0 (getD p 0 0 + 1) ∙ long-q; few = omega (arith, count) };
+        ok = record { long = ap length er ∙ length-set q 0 (getD p 0 0 + 1) ∙ long-q };
       }
 
 -- ---- what a plan says after a push, where it is known what it said before

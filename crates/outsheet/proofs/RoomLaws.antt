@@ -65,6 +65,6 @@ pub room-for : (p long : List ℕ) (n : ℕ) → PlanOk p → countIf isLongItem
 room-for p long n ok one h wide =
     record {
       ok = ok;
-      short = total-most long (itemsOf p) (items-few p ok) one h;
+      short = total-most long (itemsOf p) (items-few p) one h;
       wide = wide;
     }

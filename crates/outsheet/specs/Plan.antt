@@ -1,13 +1,13 @@
--- The plan of a call's entries in lent bytes: a count, then room for so many items. Its meaning is a list of items.
+-- The plan of a call's entries in lent bytes: a count, then room for so many items. Its meaning is a list of items, whatever the bytes are.
 -- Assumes nothing: these are definitions.
 use mathlib.Core.Path.{_≡_}
 use mathlib.Core.List.{List, [], _∷_, _++_, map}
-use Prim.Native.Nat.{ℕ, _+_, _*_, _/_, _≤_}
+use Prim.Native.Nat.{ℕ, _+_, _*_, _/_, min}
 use lib.Dec.{eqb, ltb}
 use lib.ListN.{length, getD}
 use Rattle.octets.specs.Choice.{pick}
 use Rattle.octets.specs.Numbers.{u16At, be16}
-use Rattle.octets.specs.Parts.{parts}
+use Rattle.octets.specs.Parts.{part, parts}
 use Rattle.kinds.specs.declared.Reply.{Reply}
 use Rattle.kinds.specs.declared.Reply.the-variants.{Nack, Identity, Activation, AliveCheck, Status, PowerMode, Message, Ack, DiagnosticNack, Close, HandOn}
 use Rattle.kinds.specs.declared.Item.{Item}
@@ -67,16 +67,24 @@ itemFrom s =
       reply = replyFrom (getD s 2 0) (getD s 3 0) (u16At s 4) (u16At s 6);
     }
 
+-- the item at a place, be it below the count or not
+abbrev pub itemAt : List ℕ → ℕ → Item
+itemAt p i = itemFrom (part p (1 + i * itemSize) itemSize)
+
+-- a count past the room says no more than the room
+abbrev pub countOf : List ℕ → ℕ
+countOf p = min (getD p 0 0) planRoom
+
 unfoldable pub itemsOf : List ℕ → List Item
-itemsOf p = map itemFrom (parts itemSize 1 (getD p 0 0) p)
+itemsOf p = map itemFrom (parts itemSize 1 (countOf p) p)
 
 -- what stands past the last item
 abbrev pub noItem : Item
 noItem = itemFrom []
 
+-- the bytes are as many as a plan has
 pub record PlanOk (p : List ℕ) : Type 0 where
   pub long : length p ≡ planSize
-  pub few : getD p 0 0 ≤ planRoom
 
 -- the plan says these items
 pub record Said (p : List ℕ) (items : List Item) : Type 0 where

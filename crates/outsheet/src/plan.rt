@@ -3,10 +3,10 @@ use kinds::Item;
 use kinds::Reply;
 use kinds::RowNo;
 ghost use mathlib.Core.Path.{_≡_};
-ghost use Prim.Native.Nat.{_*_, _<_};
+ghost use Prim.Native.Nat.{_+_, _*_, _≤_};
 ghost use mathlib.Core.List.{[], _∷_};
-ghost use lib.ListN.{length, getD};
-ghost use Rattle.outsheet.specs.Plan.{planSize, tagged, itemImage, replyFrom, noItem, itemsOf, PlanOk, Said, pushedTo};
+ghost use lib.ListN.{length};
+ghost use Rattle.outsheet.specs.Plan.{planSize, itemSize, tagged, itemImage, replyFrom, itemAt, itemsOf, PlanOk, Said, pushedTo};
 
 // The most items of a plan, and the bytes of one.
 const ROOM: u8 = 72;
@@ -87,16 +87,23 @@ pub fn empty(p: &mut [u8])
     p[0] = 0;
 }
 
+// The number of items: a count past the room says no more than the room.
 pub fn count(p: &[u8]) -> usize
     requires { ⌜ PlanOk (now p) ⌝ }
     ensures { λ r. ⌜ r ≡ length (itemsOf (now (p .entry))) ⌝ }
 {
-    octets::wide(p[0])
+    let n = p[0];
+    if ROOM < n {
+        octets::wide(ROOM)
+    } else {
+        octets::wide(n)
+    }
 }
 
+// The item at a place; past the count it is none of the plan's.
 pub fn item_at(p: &[u8], i: usize) -> Item
-    requires { ⌜ PlanOk (now p) × (i < length (itemsOf (now p))) ⌝ }
-    ensures { λ r. ⌜ r ≡ getD (itemsOf (now (p .entry))) i noItem ⌝ }
+    requires { ⌜ 1 + (i + 1) * itemSize ≤ length (now p) ⌝ }
+    ensures { λ r. ⌜ r ≡ itemAt (now (p .entry)) i ⌝ }
 {
     let at = 1 + i * SIZE;
     let a = octets::read16(p, at + 4);

@@ -8,9 +8,10 @@ use lib.ListN.{length, getD}
 use Rattle.octets.proofs.PartsLaws.{length-part, getD-part}
 use Rattle.sheet.specs.Sheet.{farmSize, farmCount, farmAt, farmRecord, quotaOf, modeOf}
 use Rattle.sheet.specs.Rules.{GoodSheet}
+use Rattle.sheet.proofs.LengthLaws.{good-lengths}
 
 pub record-length : (s : List ℕ) (f : ℕ) → GoodSheet s → f < farmCount s → length (farmRecord s f) ≡ farmSize
-record-length s f g h = length-part s (farmAt f) farmSize (omega (arith, g .head .endsWithTargets))
+record-length s f g h = length-part s (farmAt f) farmSize (omega (arith, good-lengths s g .farm f h))
 
 pub record-quota : (s : List ℕ) (f : ℕ) → getD (farmRecord s f) 2 0 ≡ quotaOf s f
 record-quota s f = getD-part s (farmAt f) farmSize 2 (omega arith)

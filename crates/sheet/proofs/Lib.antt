@@ -1,5 +1,6 @@
 pub mod Order
 pub mod RulesLaws
+pub mod LengthLaws
 pub mod FarmsLaws
 pub mod FindLaws
 pub mod RowsLaws

@@ -1,10 +1,9 @@
 // What the sheet says of a farm.
 ghost use mathlib.Core.Path.{_≡_};
-ghost use Prim.Native.Nat.{_≤_, _<_};
+ghost use Prim.Native.Nat.{_+_, _≤_};
 ghost use lib.Dec.{ltb};
 ghost use lib.ListN.{length};
-ghost use Rattle.sheet.specs.Sheet.{headSize, farmCount, entityOf, quotaOf, modeOf, farmRecord};
-ghost use Rattle.sheet.specs.Rules.{GoodSheet};
+ghost use Rattle.sheet.specs.Sheet.{headSize, farmCount, farmAt, entityOf, quotaOf, modeOf, farmRecord};
 use crate::FARM_SIZE;
 use crate::HEAD_SIZE;
 use crate::head::farm_count;
@@ -20,7 +19,7 @@ pub fn has_farm(s: &[u8], f: FarmNo) -> bool
 }
 
 pub fn entity(s: &[u8], f: FarmNo) -> u16
-    requires { ⌜ (GoodSheet (now s)) × (f .0 < farmCount (now s)) ⌝ }
+    requires { ⌜ farmAt (f .0 + 1) ≤ length (now s) ⌝ }
     ensures { λ r. ⌜ r ≡ entityOf (now (s .entry)) (f .0) ⌝ }
 {
     let i = f.0 as usize;
@@ -29,7 +28,7 @@ pub fn entity(s: &[u8], f: FarmNo) -> u16
 }
 
 pub fn quota(s: &[u8], f: FarmNo) -> u8
-    requires { ⌜ (GoodSheet (now s)) × (f .0 < farmCount (now s)) ⌝ }
+    requires { ⌜ farmAt (f .0 + 1) ≤ length (now s) ⌝ }
     ensures { λ r. ⌜ r ≡ quotaOf (now (s .entry)) (f .0) ⌝ }
 {
     let i = f.0 as usize;
@@ -38,7 +37,7 @@ pub fn quota(s: &[u8], f: FarmNo) -> u8
 }
 
 pub fn power_mode(s: &[u8], f: FarmNo) -> u8
-    requires { ⌜ (GoodSheet (now s)) × (f .0 < farmCount (now s)) ⌝ }
+    requires { ⌜ farmAt (f .0 + 1) ≤ length (now s) ⌝ }
     ensures { λ r. ⌜ r ≡ modeOf (now (s .entry)) (f .0) ⌝ }
 {
     let i = f.0 as usize;
@@ -48,7 +47,7 @@ pub fn power_mode(s: &[u8], f: FarmNo) -> u8
 
 // The farm's own bytes, lent on: VIN, EID and GID are read from there.
 pub fn record_of(s: &[u8], f: FarmNo) -> &[u8]
-    requires { ⌜ (GoodSheet (now s)) × (f .0 < farmCount (now s)) ⌝ }
+    requires { ⌜ farmAt (f .0 + 1) ≤ length (now s) ⌝ }
     ensures { λ r. ⌜ now r ≡ farmRecord (now (s .entry)) (f .0) ⌝ }
 {
     let i = f.0 as usize;

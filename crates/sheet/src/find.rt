@@ -3,8 +3,7 @@ ghost use mathlib.Core.Path.{_≡_};
 ghost use Prim.Native.Nat.{_+_, _*_, _≤_};
 ghost use lib.ListN.{length};
 ghost use Rattle.octets.specs.Parts.{part};
-ghost use Rattle.sheet.specs.Sheet.{knownSize, knownFrom, knownsAt, testersOf, targetsOf};
-ghost use Rattle.sheet.specs.Rules.{GoodSheet};
+ghost use Rattle.sheet.specs.Sheet.{knownSize, knownFrom, knownsAt, endAt, testersOf, targetsOf};
 ghost use Rattle.sheet.specs.Find.{lookup};
 use crate::KNOWN_SIZE;
 use crate::head::target_count;
@@ -54,16 +53,17 @@ fn lookup_in(s: &[u8], at: usize, n: usize, address: u16) -> Found
     Found::Nobody
 }
 
-// A good sheet is required of both, though this search needs only its length: a search by halves needs that the addresses ascend.
+// The whole sheet's length is asked of both. A search by halves (request R-3) will ask besides that the addresses ascend, which its
+// callers have tested too.
 pub fn find_tester(s: &[u8], address: u16) -> Found
-    requires { ⌜ GoodSheet (now s) ⌝ }
+    requires { ⌜ endAt (now s) ≤ length (now s) ⌝ }
     ensures { λ r. ⌜ r ≡ lookup address (testersOf (now (s .entry))) ⌝ }
 {
     lookup_in(s, testers_at(s), tester_count(s), address)
 }
 
 pub fn find_target(s: &[u8], address: u16) -> Found
-    requires { ⌜ GoodSheet (now s) ⌝ }
+    requires { ⌜ endAt (now s) ≤ length (now s) ⌝ }
     ensures { λ r. ⌜ r ≡ lookup address (targetsOf (now (s .entry))) ⌝ }
 {
     lookup_in(s, targets_at(s), target_count(s), address)

@@ -1,9 +1,8 @@
 // Whose row is whose.
 ghost use mathlib.Core.Path.{_≡_};
-ghost use Prim.Native.Nat.{_+_, _*_, _≤_, _<_};
+ghost use Prim.Native.Nat.{_+_, _≤_, _<_};
 ghost use lib.ListN.{length};
-ghost use Rattle.sheet.specs.Sheet.{headSize, farmSize, mostRows, farmCount};
-ghost use Rattle.sheet.specs.Rules.{GoodSheet};
+ghost use Rattle.sheet.specs.Sheet.{farmAt, testersAt};
 ghost use Rattle.sheet.specs.Rows.{firstRow, rowsOwned, rowsIn, ownerOf};
 use crate::FARM_SIZE;
 use crate::HEAD_SIZE;
@@ -19,16 +18,16 @@ pub enum Owner {
 
 // How many rows the farm i has; as an index, so that nothing can wrap.
 fn rows_owned(s: &[u8], i: usize) -> usize
-    requires { ⌜ headSize + (i + 1) * farmSize ≤ length (now s) ⌝ }
+    requires { ⌜ farmAt (i + 1) ≤ length (now s) ⌝ }
     ensures { λ r. ⌜ r ≡ rowsOwned (now (s .entry)) i ⌝ }
 {
     let p = HEAD_SIZE + i * FARM_SIZE;
     octets::wide(s[p + 2]) + 1
 }
 
-// The rows of the first n farms.
+// The rows of the first n farms, of which a count of two bytes can say no more.
 fn rows_before(s: &[u8], n: usize) -> usize
-    requires { ⌜ (headSize + n * farmSize ≤ length (now s)) × (firstRow (now s) n ≤ mostRows) ⌝ }
+    requires { ⌜ (farmAt n ≤ length (now s)) × (n < 65536) ⌝ }
     ensures { λ r. ⌜ r ≡ firstRow (now (s .entry)) n ⌝ }
 {
     let mut sum: usize = 0;
@@ -40,17 +39,17 @@ fn rows_before(s: &[u8], n: usize) -> usize
     sum
 }
 
-pub fn first_row(s: &[u8], f: FarmNo) -> RowNo
-    requires { ⌜ (GoodSheet (now s)) × (f .0 < farmCount (now s)) ⌝ }
-    ensures { λ r. ⌜ r .0 ≡ firstRow (now (s .entry)) (f .0) ⌝ }
+// As an index: of a good sheet it is a row's number, and the caller, who knows that the sheet is good, makes it one.
+pub fn first_row(s: &[u8], f: FarmNo) -> usize
+    requires { ⌜ farmAt (f .0) ≤ length (now s) ⌝ }
+    ensures { λ r. ⌜ r ≡ firstRow (now (s .entry)) (f .0) ⌝ }
 {
     let i = f.0 as usize;
-    let n = rows_before(s, i) as u8;
-    RowNo(n)
+    rows_before(s, i)
 }
 
 pub fn all_rows(s: &[u8]) -> usize
-    requires { ⌜ GoodSheet (now s) ⌝ }
+    requires { ⌜ testersAt (now s) ≤ length (now s) ⌝ }
     ensures { λ r. ⌜ r ≡ rowsIn (now (s .entry)) ⌝ }
 {
     let n = farm_count(s);
@@ -58,7 +57,7 @@ pub fn all_rows(s: &[u8]) -> usize
 }
 
 pub fn owner_of(s: &[u8], row: RowNo) -> Owner
-    requires { ⌜ GoodSheet (now s) ⌝ }
+    requires { ⌜ testersAt (now s) ≤ length (now s) ⌝ }
     ensures { λ r. ⌜ r ≡ ownerOf (now (s .entry)) (row .0) ⌝ }
 {
     let n = farm_count(s);

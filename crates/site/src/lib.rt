@@ -12,11 +12,12 @@ pub fn site_of(s: &[u8], f: FarmNo) -> Site
     requires { ⌜ (GoodSheet (now s)) × (f .0 < farmCount (now s)) ⌝ }
     ensures { λ r. ⌜ Sited (now (s .entry)) (f .0) r ⌝ }
 {
-    let first = rows::first_row(s, f);
+    // A good sheet's rows are few enough for a byte.
+    let first = rows::first_row(s, f) as u8;
     let quota = farms::quota(s, f);
     let entity = farms::entity(s, f);
     Site {
-        first: first.0,
+        first: first,
         quota: quota,
         entity: entity,
     }

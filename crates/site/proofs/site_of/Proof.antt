@@ -1,27 +1,43 @@
--- `site_of` meets its contract.
+-- `site_of` meets its contract: a good sheet is long enough for each reader, and its rows are few enough for a byte.
 -- Assumes nothing.
+use native.Mathlib.Omega.{arith}
+use denote.Ref.{now}
+use Rattle.sheet.proofs.LengthLaws.{good-lengths}
+use Rattle.sheet.proofs.RowsLaws.{first-few}
 use Rattle.site.specs.Site.{siteOf}
-use borrow.Author.Needs.{needs}
 use Rattle.site.proofs.site_of.Statement.{statement}
 use Rattle.site.proofs.site_of.Tie as tie
-use Rattle.site.proofs.site_of.Reads as reads
-use Rattle.site.proofs.site_of.Lts as lts
-use Rattle.sheet.proofs.farms.entity.Reads as entity-reads
-use Rattle.sheet.proofs.farms.quota.Reads as quota-reads
-use Rattle.sheet.proofs.rows.first_row.Reads as first-row-reads
 
 first-row-requires : tie.Need-first-row-requires
-first-row-requires c κs = search needs
+first-row-requires c κs =
+    let s = c .before in
+    omega (arith, good-lengths (now (s .args .s)) (s .pre .0) .farm (s .args .f .0) (s .pre .1))
+
+cast-first : tie.Need-cast-first
+cast-first c =
+    let s = c .before .before in
+    let few = first-few (now (s .args .s)) (s .args .f .0) (s .pre .0) (omega (arith, s .pre .1)) in
+    omega (arith, c .first-row .ensures, few)
 
 quota-requires : tie.Need-quota-requires
-quota-requires c κs = search needs
+quota-requires c κs =
+    let s = c .before .before in
+    good-lengths (now (s .args .s)) (s .pre .0) .farm (s .args .f .0) (s .pre .1)
 
 entity-requires : tie.Need-entity-requires
-entity-requires c κs = search needs
+entity-requires c κs =
+    let s = c .before .before .before in
+    good-lengths (now (s .args .s)) (s .pre .0) .farm (s .args .f .0) (s .pre .1)
 
 returns : tie.Need-returns
 unfolding siteOf
-returns c = record { good = c .before .before .before .before .pre .0; has = c .before .before .before .before .pre .1; is = rw (c .before .before .first-row .ensures, c .before .quota .ensures, c .entity .ensures) }
+returns c =
+    let s = c .before .before .before .before in
+    record {
+      good = s .pre .0;
+      has = s .pre .1;
+      is = rw (c .before .before .first-row .ensures, c .before .quota .ensures, c .entity .ensures);
+    }
 
 pub site-of-spec : {M : Type 1} → statement M
-site-of-spec = tie.close (tie.spec first-row-requires quota-requires entity-requires returns)
+site-of-spec = tie.close (tie.spec first-row-requires cast-first quota-requires entity-requires returns)

@@ -1,20 +1,26 @@
--- `plan::count` meets its contract: the first byte is the number of items.
+-- `plan::count` meets its contract: the smaller of the first byte and the room is the number of items.
 -- Assumes nothing.
-use mathlib.Core.Path.{sym, _∙_}
+use native.Mathlib.Omega.{arith}
 use denote.Ref.{now}
 use Rattle.outsheet.proofs.PlanLaws.{count-items}
 use borrow.Author.Needs.{needs}
 use Rattle.outsheet.proofs.plan.count.Statement.{statement}
 use Rattle.outsheet.proofs.plan.count.Tie as tie
 
-shared-slice-read-wide : tie.Need-shared-slice-read-wide
-shared-slice-read-wide c = search needs
+shared-slice-read-n : tie.Need-shared-slice-read-n
+shared-slice-read-n c = search needs
 
 wide-requires : tie.Need-wide-requires
 wide-requires c κs = search needs
 
+wide-requires-2 : tie.Need-wide-requires-2
+wide-requires-2 c κs = search needs
+
 returns : tie.Need-returns
-returns c = c .wide .ensures ∙ sym (count-items (now (c .before .before .before .args .p)))
+returns c = omega (arith, c .wide .ensures, c .before .if1 .taken, count-items (now (c .before .before .before .before .args .p)))
+
+returns-2 : tie.Need-returns-2
+returns-2 c = omega (arith, c .wide2 .ensures, c .before .if1 .left, count-items (now (c .before .before .before .before .args .p)))
 
 pub count-spec : {M : Type 1} → statement M
-count-spec = tie.close (tie.spec shared-slice-read-wide wide-requires returns)
+count-spec = tie.close (tie.spec shared-slice-read-n wide-requires wide-requires-2 returns returns-2)

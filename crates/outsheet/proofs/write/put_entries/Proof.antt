@@ -11,9 +11,9 @@ use Rattle.octets.specs.Put.{putAt}
 use Rattle.kinds.specs.declared.Item.{Item}
 use Rattle.outsheet.specs.Sheet.{Entry, entryBytes}
 use Rattle.outsheet.specs.Replies.{entryOf, entriesOf}
-use Rattle.outsheet.specs.Plan.{itemsOf, noItem}
+use Rattle.outsheet.specs.Plan.{itemAt, itemsOf, noItem}
 use Rattle.outsheet.specs.Contracts.{leastOutput}
-use Rattle.outsheet.proofs.PlanLaws.{items-few}
+use Rattle.outsheet.proofs.PlanLaws.{items-few, item-said}
 use Rattle.outsheet.proofs.SheetLaws.{placeOf, laidUpTo, none-laid, first-place, all-laid, next-place, turn-fits, entry-fits, turn}
 use Rattle.outsheet.proofs.write.put_entries.Statement.{statement}
 use Rattle.outsheet.proofs.write.put_entries.Tie as tie
@@ -34,10 +34,13 @@ abbrev past : tie.Start Inv-loop μ-loop → Entry
 past s = entryOf (now (s .args .long)) noItem
 
 -- the entry that the item at i says
-told : (s : tie.Start Inv-loop μ-loop) (i : ℕ) (it : Item) → it ≡ getD (itemsOf (now (s .args .p))) i noItem
+told : (s : tie.Start Inv-loop μ-loop) (i : ℕ) (it : Item) → i < length (entries s) → it ≡ itemAt (now (s .args .p)) i
     → entryOf (now (s .args .long)) it ≡ getD (entries s) i (past s)
-told s i it e =
-    ap (entryOf (now (s .args .long))) e ∙ sym (List·getD-map (entryOf (now (s .args .long))) (itemsOf (now (s .args .p))) i noItem)
+told s i it h e =
+    let entry = entryOf (now (s .args .long)) in
+    let items = itemsOf (now (s .args .p)) in
+    let said = item-said (now (s .args .p)) i (omega (arith, h, length-map items entry)) in
+    ap entry (e ∙ sym said) ∙ sym (List·getD-map entry items i noItem)
 
 -- in a turn the entry starts within the least output
 starts : (c : tie.In-loop Inv-loop μ-loop) → c .before .loop .at ≤ leastOutput
@@ -50,10 +53,10 @@ count-requires : tie.Need-count-requires Inv-loop μ-loop
 count-requires c κs = c .before .before .before .pre .ok
 
 mul-at : tie.Need-mul-at Inv-loop μ-loop
-mul-at c = omega (arith, items-few _ (c .before .before .before .before .pre .ok), c .count .ensures)
+mul-at c = omega (arith, items-few (now (c .before .before .before .before .args .p)), c .count .ensures)
 
 add-at : tie.Need-add-at Inv-loop μ-loop
-add-at c = omega (arith, items-few _ (c .before .before .before .before .pre .ok), c .count .ensures)
+add-at c = omega (arith, items-few (now (c .before .before .before .before .args .p)), c .count .ensures)
 
 loop-holds : tie.Need-loop-holds Inv-loop μ-loop
 loop-holds c =
@@ -78,14 +81,15 @@ item-at-requires : tie.Need-item-at-requires Inv-loop μ-loop
 item-at-requires c κs =
     let s = c .before .before .before .before .before .before .before .before .before .before in
     let n = length-map (itemsOf (now (s .args .p))) (entryOf (now (s .args .long))) in
-    (s .pre .ok, omega (arith, n, c .before .before .before .before .before .loop .inv .0, c .before .before .before .before .loop-test .taken))
+    let few = items-few (now (s .args .p)) in
+    omega (arith, s .pre .ok .long, n, few, c .before .before .before .before .before .loop .inv .0, c .before .before .before .before .loop-test .taken)
 
 put-entry-requires : tie.Need-put-entry-requires Inv-loop μ-loop
 put-entry-requires c κs =
     let s = c .before .before .before .before .before .before .before .before .before .before .before .before in
     let l = c .before .before .before .before .before .before .before .loop in
     let more : l .i < length (entries s) = omega (arith, l .inv .0, c .before .before .before .before .before .before .loop-test .taken) in
-    entry-fits (entries s) (l .i) (past s) more _ (l .at) _ (s .pre .short) (omega (arith, s .pre .wide, c .before .before .before .before .write16 .kept .0, l .inv .4)) (l .inv .2) (told s (l .i) _ (c .before .item-at .ensures))
+    entry-fits (entries s) (l .i) (past s) more _ (l .at) _ (s .pre .short) (omega (arith, s .pre .wide, c .before .before .before .before .write16 .kept .0, l .inv .4)) (l .inv .2) (told s (l .i) _ more (c .before .item-at .ensures))
 
 add-i : tie.Need-add-i Inv-loop μ-loop
 add-i c = search needs
@@ -102,7 +106,7 @@ loop-again c =
     let put = c .before .before .put-entry in
     let write = c .before .before .before .before .before .before .before .write16 in
     let more : l .i < length es = omega (arith, l .inv .0, c .before .before .before .before .before .before .before .before .before .loop-test .taken) in
-    let e = told s (l .i) _ (c .before .before .before .before .item-at .ensures) in (
+    let e = told s (l .i) _ more (c .before .before .before .before .item-at .ensures) in (
       l .inv .0,
       omega (arith, c .before .before .before .before .before .before .before .before .before .loop-test .taken),
       omega (arith, put .ensures .place, l .inv .2, ap (λ (x : Entry). length (x .bytes)) e, next-place es (l .i) (past s) more),

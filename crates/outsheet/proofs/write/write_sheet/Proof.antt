@@ -23,7 +23,7 @@ put-entries-requires : tie.Need-put-entries-requires
 put-entries-requires c κs = search needs
 
 cast-t10 : tie.Need-cast-t10
-cast-t10 c = let s = c .before .before .before .before .before .before .before .before in omega (arith, c .before .before .before .before .count .ensures, items-few (now (s .args .p)) (s .pre .ok))
+cast-t10 c = let s = c .before .before .before .before .before .before .before .before in omega (arith, c .before .before .before .before .count .ensures, items-few (now (s .args .p)))
 
 cast-t12 : tie.Need-cast-t12
 cast-t12 c = search needs

@@ -1,12 +1,9 @@
--- `all_rows` meets its contract.
+-- `all_rows` meets its contract: a count of two bytes is below 65,536.
 -- Assumes nothing.
-use mathlib.Core.Path.{_∙_, sym, ap, subst}
-use Prim.Native.Nat.{ℕ, _≤_}
+use mathlib.Core.Path.{_∙_, ap}
 use native.Mathlib.Omega.{arith}
 use denote.Ref.{now}
-use Rattle.sheet.specs.Sheet.{mostRows}
 use Rattle.sheet.specs.Rows.{firstRow}
-use Rattle.sheet.proofs.RowsLaws.{rows-few}
 use borrow.Author.Needs.{needs}
 use Rattle.sheet.proofs.rows.all_rows.Statement.{statement}
 use Rattle.sheet.proofs.rows.all_rows.Tie as tie
@@ -16,10 +13,9 @@ farm-count-requires c κs = search needs
 
 rows-before-requires : tie.Need-rows-before-requires
 rows-before-requires c κs =
-    let s = now (c .before .before .args .s) in
-    let g = c .before .before .pre in
+    let byte = c .before .shared-slice-known .given in
     let e = c .farm-count .ensures in
-    (omega (arith, g .head .endsWithTargets, e), subst (λ (k : ℕ). firstRow s k ≤ mostRows) (sym e) (rows-few s g))
+    (omega (arith, c .before .before .pre, e), omega (arith, e, byte 0, byte 1))
 
 returns : tie.Need-returns
 returns c = c .rows-before .ensures ∙ ap (firstRow (now (c .before .before .before .args .s))) (c .before .farm-count .ensures)

@@ -1,7 +1,8 @@
--- `owner_of` meets its contract. The walk: the owner among all farms is the owner among those left, the row counted from the first row of the next.
+-- `owner_of` meets its contract. The walk: the owner among all farms is the owner among those left, the row counted from the first row of the next. A farm
+-- has a row at least, so a farm's number is no higher than the row's.
 -- Assumes nothing.
 use mathlib.Core.Path.{_≡_, sym, ap, _∙_}
-use Prim.Native.Nat.{ℕ, suc, _-_, _≤_}
+use Prim.Native.Nat.{ℕ, suc, _+_, _-_, _≤_}
 use native.Mathlib.Omega.{arith}
 use native.Mathlib.Numerals.{add-one}
 use denote.Ref.{now}
@@ -12,7 +13,7 @@ use Rattle.sheet.proofs.rows.owner_of.Statement.{statement}
 use Rattle.sheet.proofs.rows.owner_of.Tie as tie
 
 abbrev Inv-loop : tie.InvT-loop
-Inv-loop s n left₀ i₀ left i = (i ≤ n) × (n ≡ farmCount s) × (left ≤ left₀) × (ownerOf s left₀ ≡ ownerFrom s (n - i) i left)
+Inv-loop s n left₀ i₀ left i = (i ≤ n) × (n ≡ farmCount s) × (i + left ≤ left₀) × (ownerOf s left₀ ≡ ownerFrom s (n - i) i left)
 
 abbrev μ-loop : tie.MeasureT-loop
 μ-loop s n left₀ i₀ left i = n - i
@@ -32,14 +33,13 @@ loop-holds c =
 
 rows-owned-requires : tie.Need-rows-owned-requires Inv-loop μ-loop
 rows-owned-requires c κs =
-    omega (arith, c .before .before .before .before .before .pre .head .endsWithTargets)
+    omega (arith, c .before .before .before .before .before .pre, c .before .loop .inv .1)
 
 cast-farm : tie.Need-cast-farm Inv-loop μ-loop
-cast-farm c =
-    omega (arith, c .before .before .before .before .before .before .before .pre .head .farmsAtMost)
+cast-farm c = omega (arith, c .before .before .before .loop .inv .2)
 
 cast-seat : tie.Need-cast-seat Inv-loop μ-loop
-cast-seat c = omega arith
+cast-seat c = omega (arith, c .before .before .before .loop .inv .2)
 
 returns : tie.Need-returns Inv-loop μ-loop
 returns c =
@@ -67,7 +67,7 @@ loop-again c =
     let e : n - l .i ≡ suc (n - suc (l .i)) = omega arith in (
       omega arith,
       l .inv .1,
-      omega (arith, l .inv .2),
+      omega (arith, l .inv .2, o .ensures),
       l .inv .3
           ∙ ap (λ (k : ℕ). ownerFrom s k (l .i) (l .left)) e
           ∙ owner-next s (n - suc (l .i)) (l .i) (l .left) (omega (arith, o .ensures))
