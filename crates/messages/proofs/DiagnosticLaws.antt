@@ -2,7 +2,7 @@
 -- Assumes nothing.
 use Prim.Native.Nat.{ℕ}
 use mathlib.Core.Path.{_≡_, refl, sym, ap, _∙_}
-use mathlib.Core.Bool.{Bool, true, false}
+use mathlib.Core.Bool.{true, false}
 use mathlib.Core.List.{List, [], _∷_}
 use borrow.Author.Tests.{eq-eqb, ne-eqb}
 use Rattle.kinds.specs.declared.Item.{Item}
@@ -18,7 +18,7 @@ use Rattle.model.specs.FarmSheet.{FarmSheet, farmSheet, TargetIs, stranger, unr
 use Rattle.model.specs.Row.{rowAt, activeAs}
 use Rattle.model.specs.Farm.{Farm, does, andThen, says, closed}
 use Rattle.model.specs.Bytes.{toTarget, diagnosed, faulted}
-use Rattle.model.proofs.SameSite.{SameSite, closed-same}
+use Rattle.model.proofs.SameSite.{SameSite}
 use Rattle.outsheet.specs.Plan.{pushedTo}
 use Rattle.rowwork.specs.Did.{pushedAll}
 use Rattle.messages.specs.Codes.{targetCode, repliesBy}
@@ -79,7 +79,7 @@ module _ (a b : FarmSheet) (same : SameSite a b) (seat : ℕ) where
     unfolding diagnosed andThen closed
     diagnosed-stranger h = rw (h, same .first) refl
 
--- ---- a header judged wrong
+  -- ---- a header judged wrong
 
   pub faulted-same : (fault : Fault) (f : Farm) → faulted a seat fault f ≡ faulted b seat fault f
   unfolding andThen closed

@@ -61,7 +61,12 @@ fn reply(p: &mut [u8], site: Site, seat: usize, e: Ends, code: u8)
         say::say(p, site, seat, Reply::HandOn);
         return;
     }
-    say::say(p, site, seat, Reply::DiagnosticNack(e.target, e.source, code));
+    say::say(
+        p,
+        site,
+        seat,
+        Reply::DiagnosticNack(e.target, e.source, code),
+    );
 }
 
 pub fn diagnose(b: &mut [u8], p: &mut [u8], s: &[u8], f: FarmNo, site: Site, seat: usize, e: Ends)
@@ -73,6 +78,11 @@ pub fn diagnose(b: &mut [u8], p: &mut [u8], s: &[u8], f: FarmNo, site: Site, sea
         reply(p, site, seat, e, code);
         return;
     }
-    say::say(p, site, seat, Reply::DiagnosticNack(e.target, e.source, WRONG_SOURCE));
+    say::say(
+        p,
+        site,
+        seat,
+        Reply::DiagnosticNack(e.target, e.source, WRONG_SOURCE),
+    );
     close::close(b, p, site, seat);
 }

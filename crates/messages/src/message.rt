@@ -22,7 +22,17 @@ use line::join;
 use wire::payload;
 
 // By the message's type.
-pub fn message(b: &mut [u8], p: &mut [u8], room: &[u8], s: &[u8], f: FarmNo, site: Site, seat: usize, kind: u16, size: u32)
+pub fn message(
+    b: &mut [u8],
+    p: &mut [u8],
+    room: &[u8],
+    s: &[u8],
+    f: FarmNo,
+    site: Site,
+    seat: usize,
+    kind: u16,
+    size: u32,
+)
     requires { ⌜ (seat < seats) × (length (farmOf (now b) .line) < seats) × (length (now room) ≡ mostPayload) × RightLength kind size × Sited (now s) (f .0) site × Whole (now b) × PlanOk (now p) ⌝ }
     ensures { λ _. ⌜ Did (now (p .entry)) (now (b .exit)) (now (p .exit)) (messaged (farmSheet (now (s .entry)) (f .0)) seat kind (take size (now (room .entry))) (farmOf (now (b .entry)))) ⌝ }
 {
@@ -44,7 +54,16 @@ pub fn message(b: &mut [u8], p: &mut [u8], room: &[u8], s: &[u8], f: FarmNo, sit
 }
 
 // By what ended the call: "the input ends, a header is judged wrong, or one message is finished".
-pub fn event(b: &mut [u8], p: &mut [u8], room: &[u8], s: &[u8], f: FarmNo, site: Site, seat: usize, e: Event)
+pub fn event(
+    b: &mut [u8],
+    p: &mut [u8],
+    room: &[u8],
+    s: &[u8],
+    f: FarmNo,
+    site: Site,
+    seat: usize,
+    e: Event,
+)
     requires { ⌜ (seat < seats) × (length (farmOf (now b) .line) < seats) × (length (now room) ≡ mostPayload) × EndsWell (eventOf e) × Sited (now s) (f .0) site × Whole (now b) × PlanOk (now p) ⌝ }
     ensures { λ _. ⌜ Did (now (p .entry)) (now (b .exit)) (now (p .exit)) (eventDone (farmSheet (now (s .entry)) (f .0)) seat (eventOf e) (now (room .entry)) (farmOf (now (b .entry)))) ⌝ }
 {

@@ -5,9 +5,6 @@ use Rattle.messages.proofs.DiagnosticLaws.{target-nobody, target-other,
 use borrow.Author.Needs.{needs}
 use Rattle.messages.proofs.diagnostic.code_for.Statement.{statement}
 use Rattle.messages.proofs.diagnostic.code_for.Tie as tie
-use Rattle.messages.proofs.diagnostic.code_for.Reads as reads
-use Rattle.messages.proofs.diagnostic.code_for.Lts as lts
-use Rattle.sheet.proofs.find.find_target.Reads as find-target-reads
 
 find-target-requires : tie.Need-find-target-requires
 find-target-requires c κs = search needs

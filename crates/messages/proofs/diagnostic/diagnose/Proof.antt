@@ -11,13 +11,6 @@ use Rattle.messages.proofs.DiagnosticLaws.{diagnosed-own, diagnosed-str
 use borrow.Author.Needs.{needs}
 use Rattle.messages.proofs.diagnostic.diagnose.Statement.{statement}
 use Rattle.messages.proofs.diagnostic.diagnose.Tie as tie
-use Rattle.messages.proofs.diagnostic.diagnose.Reads as reads
-use Rattle.messages.proofs.diagnostic.diagnose.Lts as lts
-use Rattle.messages.proofs.diagnostic.code_for.Reads as code-for-reads
-use Rattle.messages.proofs.diagnostic.reply.Reads as reply-reads
-use Rattle.rowwork.proofs.close.close.Reads as close-reads
-use Rattle.rowwork.proofs.decide.active_as.Reads as active-as-reads
-use Rattle.rowwork.proofs.say.say.Reads as say-reads
 
 active-as-requires : tie.Need-active-as-requires
 active-as-requires c κs = search needs

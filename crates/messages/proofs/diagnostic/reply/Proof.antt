@@ -13,9 +13,6 @@ use Rattle.messages.proofs.DiagnosticLaws.{said-twice, replies-on, repl
 use borrow.Author.Needs.{needs}
 use Rattle.messages.proofs.diagnostic.reply.Statement.{statement}
 use Rattle.messages.proofs.diagnostic.reply.Tie as tie
-use Rattle.messages.proofs.diagnostic.reply.Reads as reads
-use Rattle.messages.proofs.diagnostic.reply.Lts as lts
-use Rattle.rowwork.proofs.say.say.Reads as say-reads
 
 say-requires : tie.Need-say-requires
 say-requires c κs = search needs

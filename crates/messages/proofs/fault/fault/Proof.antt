@@ -13,12 +13,6 @@ use Rattle.messages.proofs.DiagnosticLaws.{faulted-closes, faulted-skip
 use borrow.Author.Needs.{needs}
 use Rattle.messages.proofs.fault.fault.Statement.{statement}
 use Rattle.messages.proofs.fault.fault.Tie as tie
-use Rattle.messages.proofs.fault.fault.Reads as reads
-use Rattle.messages.proofs.fault.fault.Lts as lts
-use Rattle.rowwork.proofs.close.close.Reads as close-reads
-use Rattle.rowwork.proofs.say.say.Reads as say-reads
-use Rattle.wire.proofs.header.closes_row.Reads as closes-row-reads
-use Rattle.wire.proofs.header.code_of.Reads as code-of-reads
 
 code-of-requires : tie.Need-code-of-requires
 code-of-requires c κs = search needs

@@ -1,6 +1,6 @@
 -- `message::event` meets its contract.
 -- Assumes nothing.
-use mathlib.Core.Path.{sym, ap, _∙_}
+use mathlib.Core.Path.{sym, ap}
 use Rattle.kinds.specs.declared.Event.{Event}
 use Rattle.model.specs.FarmSheet.{FarmSheet, farmSheet}
 use Rattle.model.specs.Farm.{Farm}
@@ -15,10 +15,6 @@ use Rattle.messages.proofs.LengthLaws.{finished-right}
 use borrow.Author.Needs.{needs}
 use Rattle.messages.proofs.message.event.Statement.{statement}
 use Rattle.messages.proofs.message.event.Tie as tie
-use Rattle.messages.proofs.message.event.Reads as reads
-use Rattle.messages.proofs.message.event.Lts as lts
-use Rattle.messages.proofs.fault.fault.Reads as fault-reads
-use Rattle.messages.proofs.message.message.Reads as message-reads
 
 enum-told : tie.Need-enum-told
 enum-told c = search needs

@@ -15,20 +15,12 @@ use Rattle.model.proofs.SameSite.{marked-same}
 use Rattle.table.specs.Block.{farmOf}
 use Rattle.rowwork.specs.Did.{siteSheet}
 use Rattle.rowwork.proofs.DidLaws.{did-same, did-quietly, did-nothing}
-use Rattle.site.proofs.SiteLaws.{sited-same, sited-fit}
+use Rattle.site.proofs.SiteLaws.{sited-same}
 use Rattle.messages.proofs.LengthLaws.{request-long, response-long, diagnostic-long, payload-length}
 use Rattle.messages.proofs.MessageLaws.{is-request, is-response, is-diagnostic, is-dropped}
 use borrow.Author.Needs.{needs}
 use Rattle.messages.proofs.message.message.Statement.{statement}
 use Rattle.messages.proofs.message.message.Tie as tie
-use Rattle.messages.proofs.message.message.Reads as reads
-use Rattle.messages.proofs.message.message.Lts as lts
-use Rattle.line.proofs.join.mark_row.Reads as mark-row-reads
-use Rattle.messages.proofs.diagnostic.diagnose.Reads as diagnose-reads
-use Rattle.messages.proofs.request.request.Reads as request-reads
-use Rattle.wire.proofs.payload.address_of.Reads as address-of-reads
-use Rattle.wire.proofs.payload.ends_of.Reads as ends-of-reads
-use Rattle.wire.proofs.payload.request_of.Reads as request-of-reads
 
 slice-aggregate-request-of : tie.Need-slice-aggregate-request-of
 slice-aggregate-request-of c = sym (payload-length _ _ (c .before .before .before .before .before .before .pre .3) (c .before .before .before .before .before .before .args .room .now) (c .before .before .before .before .before .before .pre .2))

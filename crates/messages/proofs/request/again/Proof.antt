@@ -4,8 +4,6 @@ use Rattle.model.specs.Line.{accepted}
 use Rattle.messages.proofs.RequestLaws.{again-same, again-other}
 use Rattle.messages.proofs.request.again.Statement.{statement}
 use Rattle.messages.proofs.request.again.Tie as tie
-use Rattle.messages.proofs.request.again.Reads as reads
-use Rattle.messages.proofs.request.again.Lts as lts
 
 returns : tie.Need-returns
 unfolding accepted

@@ -8,11 +8,6 @@ use Rattle.messages.proofs.RequestLaws.{state-active}
 use borrow.Author.Needs.{needs}
 use Rattle.messages.proofs.request.by_state.Statement.{statement}
 use Rattle.messages.proofs.request.by_state.Tie as tie
-use Rattle.messages.proofs.request.by_state.Reads as reads
-use Rattle.messages.proofs.request.by_state.Lts as lts
-use Rattle.messages.proofs.request.again.Reads as again-reads
-use Rattle.rowwork.proofs.decide.socket_rules.Reads as socket-rules-reads
-use Rattle.table.proofs.row.state_at.Reads as state-at-reads
 
 state-at-requires : tie.Need-state-at-requires
 state-at-requires c κs = search needs

@@ -3,10 +3,6 @@
 use borrow.Author.Needs.{needs}
 use Rattle.messages.proofs.request.carry_out.Statement.{statement}
 use Rattle.messages.proofs.request.carry_out.Tie as tie
-use Rattle.messages.proofs.request.carry_out.Reads as reads
-use Rattle.messages.proofs.request.carry_out.Lts as lts
-use Rattle.line.proofs.join.join_line.Reads as join-line-reads
-use Rattle.rowwork.proofs.answer.answer.Reads as answer-reads
 
 enum-known-d : tie.Need-enum-known-d
 enum-known-d c = search needs

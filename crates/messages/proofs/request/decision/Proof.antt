@@ -13,10 +13,6 @@ use Rattle.messages.proofs.RequestLaws.{decide-nobody, decide-other, de
 use borrow.Author.Needs.{needs}
 use Rattle.messages.proofs.request.decision.Statement.{statement}
 use Rattle.messages.proofs.request.decision.Tie as tie
-use Rattle.messages.proofs.request.decision.Reads as reads
-use Rattle.messages.proofs.request.decision.Lts as lts
-use Rattle.messages.proofs.request.by_state.Reads as by-state-reads
-use Rattle.sheet.proofs.find.find_tester.Reads as find-tester-reads
 
 find-tester-requires : tie.Need-find-tester-requires
 find-tester-requires c κs = search needs

@@ -13,10 +13,6 @@ use Rattle.messages.proofs.RequestLaws.{decided-same}
 use borrow.Author.Needs.{needs}
 use Rattle.messages.proofs.request.request.Statement.{statement}
 use Rattle.messages.proofs.request.request.Tie as tie
-use Rattle.messages.proofs.request.request.Reads as reads
-use Rattle.messages.proofs.request.request.Lts as lts
-use Rattle.messages.proofs.request.carry_out.Reads as carry-out-reads
-use Rattle.messages.proofs.request.decision.Reads as decision-reads
 
 decision-requires : tie.Need-decision-requires
 decision-requires c κs = (c .before .before .before .before .pre .2, c .before .before .before .before .pre .3 .long)
