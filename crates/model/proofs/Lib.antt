@@ -51,6 +51,7 @@ pub mod CodeHistory
 pub mod Readable
 pub mod AtOnce
 pub mod ShutOut
+pub mod LineRoom
 pub mod MeterBalance
 pub mod MeterDoings
 pub mod MeterLine
