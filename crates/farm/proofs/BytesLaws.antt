@@ -26,12 +26,11 @@ use Rattle.model.specs.FarmSheet.{FarmSheet, TargetIs, stranger, unreachable, r
 use Rattle.model.specs.Row.{noHead, rowAt, activeAs, waitingRow, heardState}
 use Rattle.model.specs.Stream.{streamOf, isStored, Event, inputEnded, wrong, finished, skipped, Taken, endedBy}
 use Rattle.model.specs.Farm.{Farm, seatCount, withRow, withLine, Done, tookMore, wrap, andThen, closed}
-use Rattle.model.specs.Line.{accepted, decide, answered, started, joined, isEmpty, answersCheck, marked, settle}
+use Rattle.model.specs.Line.{accepted, decide, answered, joined, isEmpty, answersCheck, marked, settle}
 use Rattle.model.specs.Bytes.{decidedBy, requested, toTarget, diagnosed, eventDone, heard, payloadBy, bytesDone}
 use Rattle.model.specs.Rule.{Good}
 use Rattle.model.proofs.Cases.{pick-case}
 use Rattle.model.proofs.LineRoom.{line-below}
-use Rattle.model.proofs.MeterBalance.{wrap-right}
 use Rattle.model.proofs.SameSite.{SameSite, settle-same}
 use Rattle.model.proofs.Settling.{started-farm}
 use Rattle.table.specs.Layout.{seats}

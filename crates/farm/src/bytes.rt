@@ -135,7 +135,16 @@ fn payload_long(event: Event) -> usize
 
 // ---- the call
 
-pub fn bytes(b: &mut [u8], p: &mut [u8], room: &mut [u8], s: &[u8], f: FarmNo, site: Site, seat: usize, input: &[u8]) -> Heard
+pub fn bytes(
+    b: &mut [u8],
+    p: &mut [u8],
+    room: &mut [u8],
+    s: &[u8],
+    f: FarmNo,
+    site: Site,
+    seat: usize,
+    input: &[u8],
+) -> Heard
     requires { ⌜ (seat < seats) × (length (now room) ≡ mostPayload) × Sited (now s) (f .0) site × Good (farmSheet (now s) (f .0)) (farmOf (now b)) × (isWaiting (rowAt (farmOf (now b) .rows) seat) ≡ false) × Whole (now b) × PlanOk (now p) ⌝ }
     ensures { λ r. ⌜ BytesDid r (farmSheet (now (s .entry)) (f .0)) seat (takenBy seat (now (room .entry)) (now (input .entry)) (farmOf (now (b .entry)))) (farmOf (now (b .entry))) (now (p .entry)) (now (b .exit)) (now (p .exit)) (now (room .exit)) ⌝ }
 {

@@ -19,6 +19,7 @@ pub mod CalmCheck
 pub mod CalmChange
 pub mod CalmMove
 pub mod RuleKept
+pub mod LineRoom
 pub mod RuleTestLaws
 pub mod TableTest
 pub mod WindowAlone
@@ -51,7 +52,6 @@ pub mod CodeHistory
 pub mod Readable
 pub mod AtOnce
 pub mod ShutOut
-pub mod LineRoom
 pub mod MeterBalance
 pub mod MeterDoings
 pub mod MeterLine

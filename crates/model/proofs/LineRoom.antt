@@ -96,7 +96,8 @@ sum-fewer g h k e (suc n) l =
 -- ---- a farm that keeps the rules
 
 module _ {own : FarmSheet} {f : Farm} (g : Good own f) where
-  none-beyond : Below seatCount (f .line)
+  -- no seat past the farm's own waits
+  pub none-beyond : (i : ℕ) → seatCount ≤ i → times i (f .line) ≡ 0
   none-beyond i h =
       let l : length (f .rows) ≤ i = omega (arith, g .seats) in
       g .lined i ∙ ap (λ (r : Row). one (isWaiting r)) (List·getD-eq-default (f .rows) freeRow {n = i} l)

@@ -3,7 +3,6 @@
 use mathlib.Core.Path.{_≡_, sym, ap, subst, _∙_}
 use mathlib.Core.List.{List}
 use Prim.Native.Nat.{ℕ, _<_, _≤_}
-use native.Mathlib.Omega.{arith}
 use lib.ListN.{length, take}
 use Rattle.kinds.specs.declared.Row.{Row}
 use Rattle.wire.specs.Header.{mostPayload}
@@ -23,19 +22,10 @@ use Rattle.stream.specs.Took.{eventOf, takenOf}
 use Rattle.stream.proofs.RunLaws.{takes-one}
 use Rattle.messages.specs.Length.{EndsWell}
 use Rattle.messages.proofs.LengthLaws.{takes-right}
-use Rattle.farm.specs.Bytes.{payloadLong}
 use Rattle.farm.proofs.BytesLaws.{good-seated, event-sits, heard-line, payload-taken, payload-short, bytes-did}
 use borrow.Author.Needs.{needs}
 use Rattle.farm.proofs.bytes.bytes.Statement.{statement}
 use Rattle.farm.proofs.bytes.bytes.Tie as tie
-use Rattle.farm.proofs.bytes.bytes.Reads as reads
-use Rattle.farm.proofs.bytes.bytes.Lts as lts
-use Rattle.farm.proofs.bytes.hear.Reads as hear-reads
-use Rattle.farm.proofs.bytes.payload_long.Reads as payload-long-reads
-use Rattle.line.proofs.settle.settle.Reads as settle-reads
-use Rattle.messages.proofs.message.event.Reads as event-reads
-use Rattle.stream.proofs.take.Reads as take-reads
-use Rattle.table.proofs.row.row_at.Reads as row-at-reads
 
 row-at-requires : tie.Need-row-at-requires
 row-at-requires c κs = search needs

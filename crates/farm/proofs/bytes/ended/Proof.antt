@@ -4,10 +4,6 @@ use mathlib.Core.Path.{_∙_}
 use borrow.Author.Needs.{needs}
 use Rattle.farm.proofs.bytes.ended.Statement.{statement}
 use Rattle.farm.proofs.bytes.ended.Tie as tie
-use Rattle.farm.proofs.bytes.ended.Reads as reads
-use Rattle.farm.proofs.bytes.ended.Lts as lts
-use Rattle.farm.proofs.bytes.over.Reads as over-reads
-use Rattle.table.proofs.meters.ended.Reads as ended-reads
 
 enum-told : tie.Need-enum-told
 enum-told c = search needs

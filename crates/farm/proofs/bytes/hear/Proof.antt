@@ -10,21 +10,12 @@ use Rattle.kinds.specs.declared.RowState.{RowState}
 use Rattle.model.specs.Row.{noHead, heardState, rowAt}
 use Rattle.model.specs.Stream.{streamOf, endedBy}
 use Rattle.model.specs.Farm.{Farm, withRow, withMeters, tookMore, finishedMore}
-use Rattle.model.specs.Bytes.{heardRow, heard}
+use Rattle.model.specs.Bytes.{heard}
 use Rattle.table.specs.Block.{farmOf}
-use Rattle.stream.specs.Took.{eventOf, takenOf}
+use Rattle.stream.specs.Took.{eventOf}
 use borrow.Author.Needs.{needs}
 use Rattle.farm.proofs.bytes.hear.Statement.{statement}
 use Rattle.farm.proofs.bytes.hear.Tie as tie
-use Rattle.farm.proofs.bytes.hear.Reads as reads
-use Rattle.farm.proofs.bytes.hear.Lts as lts
-use Rattle.farm.proofs.bytes.ended.Reads as ended-reads
-use Rattle.farm.proofs.bytes.heard_state.Reads as heard-state-reads
-use Rattle.farm.proofs.bytes.took.Reads as took-reads
-use Rattle.table.proofs.meters.meters_at.Reads as meters-at-reads
-use Rattle.table.proofs.meters.put_meters.Reads as put-meters-reads
-use Rattle.table.proofs.row.put_row.Reads as put-row-reads
-use Rattle.table.proofs.row.state_at.Reads as state-at-reads
 
 state-at-requires : tie.Need-state-at-requires
 state-at-requires c κs = search needs

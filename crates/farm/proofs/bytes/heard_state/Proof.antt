@@ -1,16 +1,11 @@
 -- `bytes::heard_state` meets its contract.
 -- Assumes nothing.
 use Rattle.farm.proofs.BytesLaws.{active-heard}
-use mathlib.Core.Path.{sym, ap, _∙_}
-use Rattle.kinds.specs.declared.Clock.{Clock}
-use Rattle.kinds.specs.declared.RowState.the-variants.{Active}
+use mathlib.Core.Path.{sym, ap}
 use Rattle.model.specs.Row.{heardState}
 use borrow.Author.Needs.{needs}
 use Rattle.farm.proofs.bytes.heard_state.Statement.{statement}
 use Rattle.farm.proofs.bytes.heard_state.Tie as tie
-use Rattle.farm.proofs.bytes.heard_state.Reads as reads
-use Rattle.farm.proofs.bytes.heard_state.Lts as lts
-use Rattle.farm.proofs.bytes.idle_after.Reads as idle-after-reads
 
 enum-told : tie.Need-enum-told
 enum-told c = search needs

@@ -5,9 +5,6 @@ use mathlib.Core.Path.{_∙_}
 use borrow.Author.Needs.{needs}
 use Rattle.farm.proofs.bytes.idle_after.Statement.{statement}
 use Rattle.farm.proofs.bytes.idle_after.Tie as tie
-use Rattle.farm.proofs.bytes.idle_after.Reads as reads
-use Rattle.farm.proofs.bytes.idle_after.Lts as lts
-use Rattle.kinds.proofs.Clock.fresh.Reads as fresh-reads
 
 returns : tie.Need-returns
 returns c = idle-kept _ _ (c .if1 .taken)

@@ -4,9 +4,6 @@ use mathlib.Core.Path.{_∙_}
 use borrow.Author.Needs.{needs}
 use Rattle.farm.proofs.bytes.over.Statement.{statement}
 use Rattle.farm.proofs.bytes.over.Tie as tie
-use Rattle.farm.proofs.bytes.over.Reads as reads
-use Rattle.farm.proofs.bytes.over.Lts as lts
-use Rattle.table.proofs.meters.ended.Reads as ended-reads
 
 enum-told : tie.Need-enum-told
 enum-told c = search needs

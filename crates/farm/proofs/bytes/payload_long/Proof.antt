@@ -7,9 +7,6 @@ use Rattle.farm.specs.Bytes.{payloadLong}
 use borrow.Author.Needs.{needs}
 use Rattle.farm.proofs.bytes.payload_long.Statement.{statement}
 use Rattle.farm.proofs.bytes.payload_long.Tie as tie
-use Rattle.farm.proofs.bytes.payload_long.Reads as reads
-use Rattle.farm.proofs.bytes.payload_long.Lts as lts
-use Rattle.farm.proofs.bytes.stored.Reads as stored-reads
 
 enum-told : tie.Need-enum-told
 enum-told c = search needs

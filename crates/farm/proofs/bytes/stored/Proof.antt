@@ -5,9 +5,6 @@ use mathlib.Core.Path.{sym, _∙_}
 use borrow.Author.Needs.{needs}
 use Rattle.farm.proofs.bytes.stored.Statement.{statement}
 use Rattle.farm.proofs.bytes.stored.Tie as tie
-use Rattle.farm.proofs.bytes.stored.Reads as reads
-use Rattle.farm.proofs.bytes.stored.Lts as lts
-use Rattle.stream.proofs.is_stored.Reads as is-stored-reads
 
 is-stored-requires : tie.Need-is-stored-requires
 is-stored-requires c κs = search needs

@@ -5,9 +5,6 @@ use mathlib.Core.Path.{_∙_}
 use borrow.Author.Needs.{needs}
 use Rattle.farm.proofs.bytes.took.Statement.{statement}
 use Rattle.farm.proofs.bytes.took.Tie as tie
-use Rattle.farm.proofs.bytes.took.Reads as reads
-use Rattle.farm.proofs.bytes.took.Lts as lts
-use Rattle.table.proofs.meters.took.Reads as took-reads
 
 cast-took : tie.Need-cast-took
 cast-took c = search needs
