@@ -2,3 +2,4 @@ pub mod RowsLaws
 pub mod TickLaws
 pub mod SeatedLaws
 pub mod MessageLaws
+pub mod BytesLaws

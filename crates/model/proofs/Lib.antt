@@ -19,6 +19,7 @@ pub mod CalmCheck
 pub mod CalmChange
 pub mod CalmMove
 pub mod RuleKept
+pub mod LineRoom
 pub mod RuleTestLaws
 pub mod TableTest
 pub mod WindowAlone

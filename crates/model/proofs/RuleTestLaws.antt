@@ -37,6 +37,7 @@ use Rattle.model.specs.Rule.{times, PossibleAt, TidyAt, Tidy, RowKeeps, 
 use Rattle.model.specs.RuleTest.{everySeat, passes, isSkipped, possibleAt, isBoundary, tidyAt, isTidy, rowKeeps, activeOnceBy, isPending, headKeeps, seatKeeps, goodFarm}
 use Rattle.model.proofs.Cases.{split}
 use Rattle.model.proofs.TidyRows.{tidy-between}
+use Rattle.model.proofs.LineRoom.{none-beyond}
 
 -- ---- the parts of a seat's test
 
@@ -272,11 +273,6 @@ module _ (own : FarmSheet) (f : Farm) (g : Good own f) where
         tidy = g .tidy i;
       }
 
-  none-beyond : (i : ℕ) → seatCount ≤ i → times i (f .line) ≡ 0
-  none-beyond i h =
-      let l : length (f .rows) ≤ i = omega (arith, g .seats) in
-      g .lined i ∙ ap (λ (r : Row). one (isWaiting r)) (List·getD-eq-default (f .rows) freeRow {n = i} l)
-
   good-parts : Parts own f
   good-parts =
       record {
@@ -284,7 +280,7 @@ module _ (own : FarmSheet) (f : Farm) (g : Good own f) where
         marksToo = g .marksToo;
         each = λ i _. good-seat i;
         placesLeft = g .placesLeft;
-        noOther = none-beyond;
+        noOther = none-beyond g;
         headKeeps = g .headKeeps;
         checkRuns = g .checkRuns;
       }

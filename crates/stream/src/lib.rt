@@ -60,7 +60,7 @@ fn later(count: usize, t: Took) -> Took
 }
 
 // "a 0005, 0008 or 8001"
-fn is_stored(kind: u16) -> bool
+pub fn is_stored(kind: u16) -> bool
     ensures { λ r. ⌜ r ≡ isStored kind ⌝ }
 {
     if kind == 0x0005 {

@@ -1,0 +1,4 @@
+pub mod RequestLaws
+pub mod DiagnosticLaws
+pub mod LengthLaws
+pub mod MessageLaws
