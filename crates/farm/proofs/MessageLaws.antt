@@ -3,19 +3,18 @@
 use Prim.Native.Nat.{ℕ}
 use mathlib.Core.Path.{_≡_, refl, sym, ap, _∙_}
 use mathlib.Core.Bool.{Bool, true, false}
-use mathlib.Core.List.{List, [], _∷_}
+use mathlib.Core.List.{List}
 use lib.Dec.{eqb, leb}
 use lib.ListN.{length}
 use Rattle.octets.specs.declared.Found.{Found}
-use Rattle.octets.specs.declared.Found.the-variants.{At, Nothing}
+use Rattle.octets.specs.declared.Found.the-variants.{At}
 use Rattle.octets.specs.Choice.{pick, both, unless}
 use Rattle.octets.specs.Search.{firstAt}
-use Rattle.kinds.specs.declared.Item.{Item}
 use Rattle.kinds.specs.declared.Site.{Site}
 use Rattle.kinds.specs.declared.Reply.the-variants.{Message}
 use Rattle.sheet.specs.declared.find.Known.{Known}
 use Rattle.sheet.specs.declared.find.Found.the-variants.{Is}
-use Rattle.model.specs.FarmSheet.{FarmSheet, TargetIs, stranger, reachable, unreachable, targetBy, farmSheet}
+use Rattle.model.specs.FarmSheet.{FarmSheet, stranger, reachable, unreachable, targetBy, farmSheet}
 use Rattle.model.specs.Row.{activeAs}
 use Rattle.model.specs.Farm.{Farm, says}
 use Rattle.model.specs.Move.{Held, Move, refused, mostUser, isTarget, toTester, controllerMove}

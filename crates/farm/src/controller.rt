@@ -42,7 +42,16 @@ fn is_target(s: &[u8], f: FarmNo, from: u16) -> bool
 }
 
 // The refusal's number, or 0 where it is done.
-pub fn message(b: &[u8], p: &mut [u8], s: &[u8], f: FarmNo, site: Site, from: u16, to: u16, user: &[u8]) -> u8
+pub fn message(
+    b: &[u8],
+    p: &mut [u8],
+    s: &[u8],
+    f: FarmNo,
+    site: Site,
+    from: u16,
+    to: u16,
+    user: &[u8],
+) -> u8
     requires { ⌜ (length (now b) ≡ blockSize) × Sited (now s) (f .0) site × PlanOk (now p) ⌝ }
     ensures { λ r. ⌜ Messaged (now (s .entry)) (f .0) (farmOf (now (b .entry))) (now (p .entry)) (now (p .exit)) from to (now (user .entry)) r ⌝ }
 {

@@ -2,28 +2,25 @@
 -- handed these three does what the rules say of the whole sheet.
 -- Assumes nothing.
 use Prim.Native.Nat.{ℕ, zero, suc}
-use mathlib.Core.Path.{_≡_, refl, sym, ap, ap₂, _∙_}
-use mathlib.Core.Bool.{Bool, true, false}
+use mathlib.Core.Path.{_≡_, refl, sym, ap, _∙_}
+use mathlib.Core.Bool.{Bool}
 use mathlib.Core.List.{List, [], _∷_, _++_}
-use lib.Dec.{eqb, leb}
 use Rattle.octets.specs.declared.Found.{Found}
 use Rattle.octets.specs.declared.Found.the-variants.{At, Nothing}
-use Rattle.octets.specs.Choice.{pick, both}
-use Rattle.octets.specs.Search.{firstAt, countIf}
+use Rattle.octets.specs.Choice.{pick}
+use Rattle.octets.specs.Search.{firstAt}
 use Rattle.kinds.specs.declared.Request.{Request}
 use Rattle.kinds.specs.declared.Row.{Row}
 use Rattle.kinds.specs.declared.Reply.{Reply}
-use Rattle.kinds.specs.declared.Item.{Item}
 use Rattle.kinds.specs.declared.Check.{Check}
-use Rattle.kinds.specs.declared.Check.the-variants.{All}
 use Rattle.kinds.specs.declared.Decision.{Decision}
 use Rattle.kinds.specs.declared.Decision.the-variants.{Now, Ask}
 use Rattle.kinds.specs.declared.HeadVerdict.{HeadVerdict}
 use Rattle.kinds.specs.declared.HeadVerdict.the-variants.{Pending, Answer, RunOut}
 use Rattle.model.specs.FarmSheet.{FarmSheet}
-use Rattle.model.specs.Row.{rowAt, isOpen, isActive, activeAs, wanted, atLimit}
-use Rattle.model.specs.Farm.{Farm, withMarks, withRow, withLine, Done, does, quietly, andThen, eachSeat, seatCount, says, closed, closedIf, closedWhere}
-use Rattle.model.specs.Line.{accepted, byPlaces, byHolder, socketRules, asks, isSilent, askedIf, asking, cleared, startedBy, started, advanced, answered, verdictBy, headVerdict, serve, settleLine, settle, joined, leftBy, left, askedBy, askedIn, isAsked, marked}
+use Rattle.model.specs.Row.{rowAt, isOpen, activeAs, wanted, atLimit}
+use Rattle.model.specs.Farm.{Farm, withLine, Done, does, quietly, andThen, eachSeat, seatCount, says, closed, closedIf, closedWhere}
+use Rattle.model.specs.Line.{accepted, byHolder, socketRules, isSilent, askedIf, asking, cleared, startedBy, started, advanced, answered, verdictBy, headVerdict, serve, settleLine, settle, joined, leftBy, left, askedBy, askedIn, isAsked, marked}
 use Rattle.model.specs.Move.{peerGone, linkGone, clockRun, aged, ticked}
 use Rattle.model.proofs.Seats.{seatsTo, seats-zero, seats-suc, seats-all}
 

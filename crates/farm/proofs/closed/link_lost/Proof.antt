@@ -2,7 +2,7 @@
 -- Assumes nothing.
 use mathlib.Core.Path.{ap, _∙_}
 use mathlib.Core.List.{[]}
-use Rattle.model.specs.Farm.{Farm, Done, quietly, withLine}
+use Rattle.model.specs.Farm.{Farm, quietly, withLine}
 use Rattle.model.specs.Line.{cleared}
 use Rattle.model.specs.Move.{linkGone}
 use Rattle.table.specs.Block.{farmOf, Holds}

@@ -7,7 +7,6 @@ use lib.ListN.{take, drop}
 use lib.Seq.{getD-take}
 use Rattle.octets.specs.Search.{firstAt}
 use Rattle.octets.proofs.SearchLaws.{first-here, first-next, first-end}
-use Rattle.kinds.specs.declared.Row.{Row}
 use Rattle.model.specs.Row.{freeRow, isFree}
 use Rattle.table.specs.Block.{farmOf}
 use Rattle.farm.proofs.RowsLaws.{own-many}

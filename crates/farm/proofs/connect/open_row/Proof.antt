@@ -2,7 +2,6 @@
 -- Assumes nothing.
 use mathlib.Core.Path.{ap, _∙_}
 use Rattle.kinds.specs.declared.Clock.{Clock}
-use Rattle.kinds.specs.declared.Row.{Row}
 use Rattle.kinds.specs.declared.RowState.the-variants.{Fresh}
 use Rattle.model.specs.Row.{rowOf}
 use Rattle.model.specs.Farm.{withRow}

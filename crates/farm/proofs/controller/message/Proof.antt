@@ -1,11 +1,9 @@
 -- `controller::message` meets its contract.
 -- Assumes nothing.
-use mathlib.Core.Path.{_≡_, sym, _∙_}
-use mathlib.Core.Bool.{true, false}
+use mathlib.Core.Path.{sym, _∙_}
 use native.Mathlib.Omega.{arith}
 use borrow.Author.Tests.{not-true, not-false}
-use lib.ListN.{length}
-use Rattle.octets.specs.declared.Found.the-variants.{At, Nothing}
+use Rattle.octets.specs.declared.Found.the-variants.{Nothing}
 use Rattle.model.specs.FarmSheet.{FarmSheet, farmSheet}
 use Rattle.model.specs.Row.{activeAs}
 use Rattle.table.specs.Block.{farmOf}

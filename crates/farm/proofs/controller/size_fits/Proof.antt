@@ -1,6 +1,5 @@
 -- `controller::size_fits` meets its contract.
 -- Assumes nothing.
-use mathlib.Core.Path.{sym}
 use native.Mathlib.Omega.{arith}
 use borrow.Author.Tests.{le-leb, lt-leb}
 use Rattle.model.specs.Move.{mostUser}
