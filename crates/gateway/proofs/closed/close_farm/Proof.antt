@@ -1,5 +1,10 @@
 -- `closed::close_farm` meets its contract.
 -- Assumes nothing.
+use Rattle.farm.proofs.BytesLaws.{good-seated}
+use Rattle.site.proofs.SiteLaws.{sited-same, sited-fit}
+use Rattle.model.proofs.SameSite.{link-same}
+use Rattle.gateway.proofs.MovedLaws.{ready-below, link-small, said-items, small-room, at-same, moved-of}
+use Rattle.model.specs.Move.{noRow}
 use borrow.Author.Needs.{needs}
 use Rattle.gateway.proofs.closed.close_farm.Statement.{statement}
 use Rattle.gateway.proofs.closed.close_farm.Tie as tie
@@ -23,10 +28,10 @@ cast-link-lost-at : tie.Need-cast-link-lost-at
 cast-link-lost-at c = search needs
 
 link-lost-at-requires : tie.Need-link-lost-at-requires
-link-lost-at-requires c κs = ?
+link-lost-at-requires c κs = (ready-below (c .before .before .before .before .before .before .before .before .before .before .before .before .pre .0), (c .before .before .before .before .before .before .before .before .before .before .before .before .pre .0) .long, sited-fit _ _ _ (c .before .before .before .before .before .before .before .before .site-of .ensures), (c .before .before .before .before .before .before .before .before .before .before .before .before .pre .0) .whole, c .before .before .before .before .before .empty .ensures .ok)
 
 finish-short-requires : tie.Need-finish-short-requires
-finish-short-requires c κs = ?
+finish-short-requires c κs = small-room _ _ _ _ (c .before .before .before .before .before .before .link-lost-at .ensures .did .ok) (said-items (c .before .before .before .before .before .before .before .before .before .before .before .before .empty .ensures) ((at-same (link-same _ _ (sited-same _ _ _ (c .before .before .before .before .before .before .before .before .before .before .before .before .before .before .before .site-of .ensures)) _) (c .before .before .before .before .before .before .link-lost-at .ensures)) .did) ((link-small (c .before .before .before .before .before .before .before .before .before .before .before .before .before .before .before .before .before .before .before .pre .0)) .few)) (link-small (c .before .before .before .before .before .before .before .before .before .before .before .before .before .before .before .before .before .before .before .pre .0)) (c .before .before .before .before .before .before .before .before .before .before .before .before .before .before .before .before .before .before .before .pre .1)
 
 same-length : tie.Need-same-length
 same-length c = search needs
@@ -35,7 +40,8 @@ same-length-2 : tie.Need-same-length-2
 same-length-2 c = search needs
 
 returns : tie.Need-returns
-returns c = ?
+unfolding noRow
+returns c = moved-of (c .before .before .before .before .before .before .before .before .before .before .before .before .before .before .before .before .empty .ensures) (link-small (c .before .before .before .before .before .before .before .before .before .before .before .before .before .before .before .before .before .before .before .before .before .before .before .pre .0)) (at-same (link-same _ _ (sited-same _ _ _ (c .before .before .before .before .before .before .before .before .before .before .before .before .before .before .before .before .before .before .before .site-of .ensures)) _) (c .before .before .before .before .before .before .before .before .before .before .link-lost-at .ensures)) (c .before .before .before .finish-short .ensures .0) (c .before .before .before .finish-short .ensures .1)
 
 pub close-farm-spec : {M : Type 1} → statement M
 close-farm-spec =
