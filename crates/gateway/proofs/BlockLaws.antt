@@ -7,10 +7,10 @@ use lib.ListN.{length, take, drop}
 use Rattle.octets.proofs.PartsLaws.{part-between}
 use Rattle.sheet.specs.Sheet.{mostFarms}
 use Rattle.model.specs.Farm.{Farm, Done}
-use Rattle.table.specs.Layout.{blockSize}
+use Rattle.table.specs.Layout.{blockSize, tableSize}
 use Rattle.table.specs.Block.{farmOf}
 use Rattle.rowwork.specs.Did.{Did}
-use Rattle.lent.specs.Lent.{block, tableSize}
+use Rattle.lent.specs.Lent.{block}
 use Rattle.lent.proofs.MoveLaws.{lent-back}
 use Rattle.gateway.specs.Moved.{DidAt}
 

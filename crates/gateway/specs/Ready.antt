@@ -9,7 +9,8 @@ use Rattle.sheet.specs.Rules.{GoodSheet}
 use Rattle.model.specs.FarmSheet.{farmSheet}
 use Rattle.model.specs.Rule.{Good}
 use Rattle.table.specs.Block.{farmOf, Whole}
-use Rattle.lent.specs.Lent.{block, tableSize}
+use Rattle.table.specs.Layout.{tableSize}
+use Rattle.lent.specs.Lent.{block}
 
 -- the sheet is good and has the farm; the farm's block is whole and keeps rule 4
 pub record Ready (s t : List ℕ) (f : ℕ) : Type 0 where

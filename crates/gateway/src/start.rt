@@ -6,7 +6,7 @@ ghost use Rattle.lent.specs.Served.{memory, Served};
 use crate::answer;
 use crate::gate;
 use lent::Answer;
-use lent::TABLE;
+use table::TABLE;
 
 // A new farm is all zero bytes (crate table).
 fn clear(t: &mut [u8])

@@ -24,9 +24,9 @@ use Rattle.sheet.proofs.RowsLaws.{rows-mono, rows-few}
 use Rattle.model.specs.FarmSheet.{FarmSheet, farmSheet, noFarm, slotSheet}
 use Rattle.model.specs.Move.{Held}
 use Rattle.model.specs.Table.{assemblingSize}
-use Rattle.table.specs.Layout.{blockSize}
+use Rattle.table.specs.Layout.{blockSize, tableSize}
 use Rattle.table.specs.Block.{farmOf, image, wholeBlock}
-use Rattle.lent.specs.Lent.{block, tableSize, wholeTable, roomSize, roomsOf, heldAt, slotsFrom, lentTable, tableBytes, roomBytes}
+use Rattle.lent.specs.Lent.{block, wholeTable, roomSize, roomsOf, heldAt, slotsFrom, lentTable, tableBytes, roomBytes}
 use Rattle.lent.proofs.LentLaws.{slot-farm, slot-none}
 
 -- ---- the table

@@ -10,8 +10,9 @@ use Rattle.outsheet.specs.Replies.{entriesOf}
 use Rattle.outsheet.specs.Contracts.{Wrote}
 use Rattle.model.specs.Move.{noRow}
 use Rattle.model.specs.Table.{Call, Outcome, refuses}
+use Rattle.table.specs.Layout.{tableSize}
 use Rattle.lent.specs.declared.Answer.{Answer}
-use Rattle.lent.specs.Lent.{tableSize, lentTable, lentStep, lentStart}
+use Rattle.lent.specs.Lent.{lentTable, lentStep, lentStart}
 use Rattle.lent.specs.Gate.{startNumber, gateNumber, Lendable}
 use Rattle.lent.specs.Served.{refusal, done, Memory, memory, Served}
 use Rattle.lent.proofs.GateLaws.{started, gate-refuses, start-refuses, start-passes, starts}

@@ -21,9 +21,9 @@ use Rattle.sheet.proofs.RowsLaws.{rows-mono, rows-few, rows-within}
 use Rattle.model.specs.FarmSheet.{FarmSheet, farmSheet, noFarm, slotSheet}
 use Rattle.model.specs.Move.{Held}
 use Rattle.model.specs.Table.{Table, noHeld, slot, assemblingSize}
-use Rattle.table.specs.Layout.{blockSize}
+use Rattle.table.specs.Layout.{blockSize, tableSize}
 use Rattle.table.specs.Block.{farmOf}
-use Rattle.lent.specs.Lent.{block, tableSize, roomSize, roomsOf, heldAt, slotsFrom, lentTable}
+use Rattle.lent.specs.Lent.{block, roomSize, roomsOf, heldAt, slotsFrom, lentTable}
 use Rattle.lent.proofs.SlotLaws.{slots-length, slot-at, slot-put}
 
 -- ---- slots

@@ -18,10 +18,10 @@ use Rattle.sheet.specs.Sheet.{mostFarms}
 use Rattle.model.specs.Farm.{Farm}
 use Rattle.model.specs.Move.{Held}
 use Rattle.model.specs.Table.{Table, slot}
-use Rattle.table.specs.Layout.{blockSize}
+use Rattle.table.specs.Layout.{blockSize, tableSize}
 use Rattle.table.specs.Block.{farmOf, image, Whole, Holds}
 use Rattle.table.proofs.BlockLaws.{exact}
-use Rattle.lent.specs.Lent.{block, Only, tableSize, wholeTable, heldAt, lentTable}
+use Rattle.lent.specs.Lent.{block, Only, wholeTable, heldAt, lentTable}
 use Rattle.lent.proofs.LentLaws.{block-own, block-other, table-put, slot-is}
 use Rattle.lent.proofs.BytesLaws.{Exact, whole-exact}
 

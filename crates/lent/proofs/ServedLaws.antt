@@ -11,8 +11,9 @@ use Rattle.sheet.specs.Rows.{rowsIn}
 use Rattle.sheet.specs.Rules.{GoodSheet}
 use Rattle.outsheet.specs.Contracts.{Wrote}
 use Rattle.model.specs.Table.{assemblingSize, Did, Outcome, refuses, did}
+use Rattle.table.specs.Layout.{tableSize}
 use Rattle.lent.specs.declared.Answer.{Answer}
-use Rattle.lent.specs.Lent.{tableSize, wholeTable, roomSize, lentTable, tableBytes, roomBytes}
+use Rattle.lent.specs.Lent.{wholeTable, roomSize, lentTable, tableBytes, roomBytes}
 use Rattle.lent.specs.Served.{refusal, done, sheetBytes, Memory, memory, Served}
 use Rattle.lent.proofs.BytesLaws.{whole-exact, table-exact, rooms-exact}
 

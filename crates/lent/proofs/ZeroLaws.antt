@@ -13,10 +13,10 @@ use Rattle.sheet.specs.Sheet.{mostFarms}
 use Rattle.model.specs.Farm.{Farm, newFarm}
 use Rattle.model.specs.Move.{Held}
 use Rattle.model.specs.Table.{Table, renewed}
-use Rattle.table.specs.Layout.{blockSize}
+use Rattle.table.specs.Layout.{blockSize, tableSize}
 use Rattle.table.specs.Block.{farmOf, image}
 use Rattle.table.proofs.BlockLaws.{exact, zero-new}
-use Rattle.lent.specs.Lent.{block, tableSize, wholeTable, heldAt, slotsFrom, lentTable}
+use Rattle.lent.specs.Lent.{block, wholeTable, heldAt, slotsFrom, lentTable}
 use Rattle.lent.proofs.BytesLaws.{Exact, whole-exact}
 
 -- ---- making them, one after the other

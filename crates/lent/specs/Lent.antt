@@ -19,9 +19,6 @@ use Rattle.table.specs.Block.{farmOf, image, wholeBlock}
 
 -- ---- the lent table: a block for each farm that a sheet can have
 
-abbrev pub tableSize : ℕ
-tableSize = mostFarms * blockSize
-
 abbrev pub block : List ℕ → ℕ → List ℕ
 block t f = part t (f * blockSize) blockSize
 

@@ -1,9 +1,4 @@
-// The lent memory as a whole: its sizes, and the answer of a call. What the memory means stands in specs/.
-
-// The bytes of the lent table: a block for each farm that a sheet can have.
-pub const FARMS: usize = 4;
-
-pub const TABLE: usize = FARMS * table::BLOCK;
+// The answer of a call. What the lent memory means stands in specs/.
 
 // "A refusal returns its number, output length 0, bytes taken 0, row 255."; "Answer 0 is done; its row is the opened one for connect, else
 // 255."

@@ -13,6 +13,7 @@ pub mod SoundMove
 pub mod SoundItems
 pub mod SoundMain
 pub mod SameSite
+pub mod SameRule
 pub mod Settling
 pub mod CalmRows
 pub mod CalmCheck

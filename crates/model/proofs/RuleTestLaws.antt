@@ -55,17 +55,17 @@ skip-says (Wrong UnknownType) = says-yes (inl refl)
 skip-says (Wrong TooLong) = says-yes (inr refl)
 skip-says (Wrong WrongLength) = says-no (⊎-elim (λ e. differ (cc)) (λ e. differ (cc)))
 
-possible-says : (p : Place) (head : List ℕ) → Says (possibleAt p head) (PossibleAt p head)
+pub possible-says : (p : Place) (head : List ℕ) → Says (possibleAt p head) (PossibleAt p head)
 possible-says (Header n) head = says-lt n headerSize
 possible-says (Reading n) head = says-both (says-lt n (headerAt head 0 .length)) (passes-says (verdictOf (headerAt head 0)))
 possible-says (Skipping n) head = says-both (says-lt n (headerAt head 0 .length)) (skip-says (verdictOf (headerAt head 0)))
 
-boundary-says : (p : Place) → Says (isBoundary p) (p ≡ boundary)
+pub boundary-says : (p : Place) → Says (isBoundary p) (p ≡ boundary)
 boundary-says (Header n) = says-of (λ e. ap Header e) (λ e. cc) (says-eq n 0)
 boundary-says (Reading n) = says-no (λ e. differ (cc))
 boundary-says (Skipping n) = says-no (λ e. differ (cc))
 
-unused-says : (p : Place) (head : List ℕ) → Says (tidyAt p head) (TidyAt p head)
+pub unused-says : (p : Place) (head : List ℕ) → Says (tidyAt p head) (TidyAt p head)
 unused-says (Header n) head = same-says (drop n head) (replicate (headerSize - n) 0)
 unused-says (Reading n) head = says-yes tt
 unused-says (Skipping n) head = says-yes tt
@@ -87,7 +87,7 @@ keeps-says own r (Waiting q) =
 keeps-says own r (Active a idle) = says-true (own .tester a)
 
 -- the address of this row is active once
-abbrev OnceBy : List Row → RowState → Type 0
+abbrev pub OnceBy : List Row → RowState → Type 0
 OnceBy rows Free = Unit {0}
 OnceBy rows (Fresh age) = Unit {0}
 OnceBy rows (Waiting q) = Unit {0}
@@ -110,17 +110,18 @@ head-says own f (head ∷ rest) = pending-says (headVerdict own f head)
 
 -- ---- one seat
 
-record SeatOk (own : FarmSheet) (f : Farm) (i : ℕ) : Type 0 where
-  within : (i < own .rows) ⊎ (isOpen (rowAt (f .rows) i) ≡ false)
-  keeps : RowKeeps own (rowAt (f .rows) i) (rowAt (f .rows) i .state)
-  once : OnceBy (f .rows) (rowAt (f .rows) i .state)
-  lined : times i (f .line) ≡ one (isWaiting (rowAt (f .rows) i))
-  young : atLimit (rowAt (f .rows) i) ≡ false
-  asked : (isMarked (f .marks) i ≡ false) ⊎ (isAsked own f i ≡ true)
-  possible : PossibleAt (rowAt (f .rows) i .place) (rowAt (f .rows) i .head)
-  tidy : Tidy (rowAt (f .rows) i)
+-- the row r, that stands at the seat i, keeps the rules
+pub record SeatOk (own : FarmSheet) (f : Farm) (i : ℕ) (r : Row) : Type 0 where
+  pub within : (i < own .rows) ⊎ (isOpen r ≡ false)
+  pub keeps : RowKeeps own r (r .state)
+  pub once : OnceBy (f .rows) (r .state)
+  pub lined : times i (f .line) ≡ one (isWaiting r)
+  pub young : atLimit r ≡ false
+  pub asked : (isMarked (f .marks) i ≡ false) ⊎ (isAsked own f i ≡ true)
+  pub possible : PossibleAt (r .place) (r .head)
+  pub tidy : Tidy r
 
-seat-says : (own : FarmSheet) (f : Farm) (i : ℕ) → Says (seatKeeps own f i) (SeatOk own f i)
+pub seat-says : (own : FarmSheet) (f : Farm) (i : ℕ) → Says (seatKeeps own f i) (SeatOk own f i (rowAt (f .rows) i))
 seat-says own f i =
     let r : Row = rowAt (f .rows) i in
     says-of
@@ -144,9 +145,9 @@ seat-says own f i =
     (says-both (says-either (says-not (isMarked (f .marks) i)) (says-true (isAsked own f i)))
     (says-both (possible-says (r .place) (r .head)) (tidy-says r))))))))
 
-seats-say : (own : FarmSheet) (f : Farm) → Says (everySeat (seatKeeps own f)) ((i : ℕ) → i < seatCount → SeatOk own f i)
+seats-say : (own : FarmSheet) (f : Farm) → Says (everySeat (seatKeeps own f)) ((i : ℕ) → i < seatCount → SeatOk own f i (rowAt (f .rows) i))
 unfolding everySeat
-seats-say own f = every-says (seatKeeps own f) (SeatOk own f) (seat-says own f) seatCount
+seats-say own f = every-says (seatKeeps own f) (λ i. SeatOk own f i (rowAt (f .rows) i)) (seat-says own f) seatCount
 
 -- a line of numbers below n is one in which no other number stands
 line-says : (n : ℕ) (line : List ℕ) → Says (all (λ x. ltb x n) line) ((i : ℕ) → n ≤ i → times i line ≡ 0)
@@ -189,7 +190,7 @@ once-of rows h (Active a idle) = h a
 record Parts (own : FarmSheet) (f : Farm) : Type 0 where
   seats : length (f .rows) ≡ seatCount
   marksToo : length (f .marks) ≡ seatCount
-  each : (i : ℕ) → i < seatCount → SeatOk own f i
+  each : (i : ℕ) → i < seatCount → SeatOk own f i (rowAt (f .rows) i)
   placesLeft : countIf isActive (f .rows) ≤ own .quota
   noOther : (i : ℕ) → seatCount ≤ i → times i (f .line) ≡ 0
   headKeeps : HeadKeeps own f (f .line)
@@ -224,7 +225,7 @@ module _ (own : FarmSheet) (f : Farm) (p : Parts own f) where
   unmarked-beyond : (i : ℕ) → seatCount ≤ i → isMarked (f .marks) i ≡ false
   unmarked-beyond i h = List·getD-eq-default (f .marks) false {n = i} (let l : length (f .marks) ≤ i = omega (arith, p .marksToo) in l)
 
-  seat-case : (P : Row → Type 0) (i : ℕ) → (SeatOk own f i → P (rowAt (f .rows) i)) → (seatCount ≤ i → P freeRow) → P (rowAt (f .rows) i)
+  seat-case : (P : Row → Type 0) (i : ℕ) → (SeatOk own f i (rowAt (f .rows) i) → P (rowAt (f .rows) i)) → (seatCount ≤ i → P freeRow) → P (rowAt (f .rows) i)
   seat-case P i inside beyond =
       split (ltb i seatCount) (λ e. inside (p .each i (ltb-true i seatCount e)))
       (λ e. let h = ltb-false i seatCount e in subst P (sym (free-beyond i h)) (beyond h))
@@ -260,7 +261,7 @@ module _ (own : FarmSheet) (f : Farm) (p : Parts own f) where
       }
 
 module _ (own : FarmSheet) (f : Farm) (g : Good own f) where
-  good-seat : (i : ℕ) → SeatOk own f i
+  good-seat : (i : ℕ) → SeatOk own f i (rowAt (f .rows) i)
   good-seat i =
       record {
         within = split (ltb i (own .rows)) (λ e. inl (ltb-true i (own .rows) e)) (λ e. inr (g .within i (ltb-false i (own .rows) e)));

@@ -141,9 +141,13 @@ module _ (a b : FarmSheet) (same : SameSite a b) where
   asked-in-same f (head ∷ rest) seat =
       ap (λ (d : Decision). askedBy d seat (rowAt (f .rows) seat)) (socket-same (f .rows) (wanted (rowAt (f .rows) head)))
 
+  pub is-asked-same : (f : Farm) (seat : ℕ) → isAsked a f seat ≡ isAsked b f seat
+  unfolding isAsked
+  is-asked-same f seat = asked-in-same f (f .line) seat
+
   pub marked-same : (seat address : ℕ) (f : Farm) → marked a seat address f ≡ marked b seat address f
-  unfolding marked isAsked
-  marked-same seat address f = rw (asked-in-same f (f .line) seat)
+  unfolding marked
+  marked-same seat address f = rw (is-asked-same f seat)
 
   -- ---- the calls of one farm that only move it
 

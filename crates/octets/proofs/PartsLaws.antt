@@ -146,3 +146,8 @@ narrow b a m k ys h g =
     ∙ ap (λ (l : List ℕ). l ++ drop (k + length ys) p ++ drop (a + m) b) (append-assoc (take a b) (take k p) ys)
     ∙ ap (λ (l : List ℕ). l ++ drop (a + m) b) (append-assoc (take a b) (take k p ++ ys) (drop (k + length ys) p))
     ∙ ap (λ (n : ℕ). take a b ++ mid ++ drop (a + n) b) (sym lm)
+
+-- two lists cut at the same place
+pub same-front : (a b u v : List ℕ) (n : ℕ) → length a ≡ n → length b ≡ n → a ++ u ≡ b ++ v → (a ≡ b) × (u ≡ v)
+same-front a b u v n ha hb e =
+    (sym (take-at a u n ha) ∙ ap (take n) e ∙ take-at b v n hb, sym (drop-at a u n ha) ∙ ap (drop n) e ∙ drop-at b v n hb)

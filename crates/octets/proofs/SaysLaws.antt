@@ -22,3 +22,13 @@ refuted s e p = never (sym e ∙ s .all p)
 -- the same answer to the same question in other words
 pub says-of : {P Q : Type 0} {b : Bool} → (P → Q) → (Q → P) → Says b P → Says b Q
 says-of f g s = record { right = λ e. f (s .right e); all = λ q. s .all (g q) }
+
+-- two answers to one question are the same
+pub says-same : {P : Type 0} {a b : Bool} → Says a P → Says b P → a ≡ b
+says-same {P} {a} {b} s t = by a b s t
+  where
+    by : (x y : Bool) → Says x P → Says y P → x ≡ y
+    by true true u v = refl
+    by true false u v = absurd (never (v .all (u .right refl)))
+    by false true u v = absurd (never (u .all (v .right refl)))
+    by false false u v = refl

@@ -5,13 +5,13 @@ use mathlib.Core.List.{List, [], _∷_, _++_}
 use Prim.Native.Nat.{ℕ, _+_, _*_, _/_, _%_, _<_}
 use native.Mathlib.Omega.{arith}
 use lib.ListN.{length, getD, take, drop, take-append-drop}
-use lib.Seq.{take-at, drop-at, drop-drop}
+use lib.Seq.{drop-drop}
 use lib.Dec.{eqb}
 use borrow.Author.Tests.{eqb-true, eq-eqb, ne-eqb}
 use Rattle.octets.specs.Says.{Says}
 use Rattle.octets.specs.Numbers.{u16At, u32At, be16, be32}
 use Rattle.octets.specs.Parts.{part}
-use Rattle.octets.proofs.PartsLaws.{length-part}
+use Rattle.octets.proofs.PartsLaws.{length-part, same-front}
 use Rattle.kinds.specs.declared.RowState.the-variants.{Free}
 use Rattle.kinds.specs.declared.Place.the-variants.{Header}
 use Rattle.rowbytes.specs.RowLayout.{rowSize, ticksIn, placeIn, headIn, headSize, spareIn}
@@ -118,10 +118,6 @@ pub record Tests (s : List ℕ) : Type 0 where
   pub spare : getD s spareIn 0 ≡ 0
   pub state : StateOk (getD s 0 0) (getD s 1 0) (u16At s 2) (u16At s ticksIn)
   pub place : PlaceOk (getD s placeIn 0) (getD s 10 0) (u32At s 7)
-
-same-front : (a b u v : List ℕ) (n : ℕ) → length a ≡ n → length b ≡ n → a ++ u ≡ b ++ v → (a ≡ b) × (u ≡ v)
-same-front a b u v n ha hb e =
-    (sym (take-at a u n ha) ∙ ap (take n) e ∙ take-at b v n hb, sym (drop-at a u n ha) ∙ ap (drop n) e ∙ drop-at b v n hb)
 
 module _ (s : List ℕ) (long : length s ≡ rowSize) (byte : (i : ℕ) → getD s i 0 < 256) where
   rest : List ℕ

@@ -29,7 +29,7 @@ use Rattle.table.proofs.LineLaws.{line-long, line-back}
 
 -- ---- each record: its bytes, and back
 
-meters-long : (m : Meters) → length (metersImage m) ≡ metersSize
+pub meters-long : (m : Meters) → length (metersImage m) ≡ metersSize
 unfolding metersImage
 meters-long m = refl
 
@@ -37,7 +37,7 @@ pub meters-back : (m : Meters) → metersFrom (metersImage m) ≡ m
 unfolding metersFrom metersImage
 meters-back m = rw (four (m .taken), four (m .finished), four (m .lost))
 
-clock-long : (c : Clock) → length (clockImage c) ≡ clockSize
+pub clock-long : (c : Clock) → length (clockImage c) ≡ clockSize
 unfolding clockImage
 clock-long c = refl
 

@@ -5,4 +5,5 @@ pub mod RowStores
 pub mod LineStores
 pub mod MarkLaws
 pub mod WholeLaws
+pub mod WholeTest
 pub mod Example

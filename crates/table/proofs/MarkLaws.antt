@@ -6,7 +6,7 @@ use mathlib.Core.List.{List, [], _∷_, _++_}
 use Prim.Native.Nat.{ℕ, _+_, _≤_, _<_}
 use native.Mathlib.Numerals.{add-one}
 use native.Mathlib.Omega.{arith}
-use lib.ListN.{length, getD, take, set, replicate, length-map}
+use lib.ListN.{length, getD, take, set, replicate, length-map, List·getD-map}
 use lib.Seq.{take-suc, take-all, length-take-le}
 use Rattle.octets.specs.Choice.{one}
 use Rattle.octets.specs.Put.{putAt}
@@ -14,6 +14,7 @@ use Rattle.octets.specs.Parts.{part}
 use Rattle.octets.proofs.PutLaws.{set-more, putAt-none}
 use Rattle.octets.proofs.PartsLaws.{getD-part, length-part}
 use Rattle.model.specs.Farm.{withMarks}
+use Rattle.model.specs.Line.{isMarked}
 use Rattle.table.specs.Layout.{seats, marksAt, blockSize}
 use Rattle.table.specs.Block.{isOne, marksImage, marksFrom, farmOf, Whole, Holds}
 use Rattle.table.proofs.ListLaws.{filled, filled-next, filled-done, map-snoc}
@@ -57,6 +58,15 @@ module _ (b : List ℕ) (long : length b ≡ blockSize) where
   read-all m i h e =
       e ∙ ap (λ (s : List ℕ). filled seats false (marksFrom s)) (take-all i bytes (omega (arith, bytes-long)))
       ∙ filled-done seats false (marksFrom bytes) (length-map bytes isOne ∙ bytes-long)
+
+  pub marks-seats : length (farmOf b .marks) ≡ seats
+  unfolding farmOf marksFrom bytes
+  marks-seats = length-map bytes isOne ∙ bytes-long
+
+  -- the mark of one seat
+  pub mark-read : (i : ℕ) → i < seats → isOne (getD b (marksAt + i) 0) ≡ isMarked (farmOf b .marks) i
+  unfolding farmOf marksFrom
+  mark-read i h = sym (List·getD-map isOne (part b marksAt seats) i 0 ∙ ap isOne (getD-part b marksAt seats i h))
 
 -- ---- storing
 

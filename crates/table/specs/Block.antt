@@ -7,9 +7,9 @@ use mathlib.Core.List.{List, _∷_, _++_, map}
 use lib.Dec.{eqb}
 use lib.ListN.{length, getD, take, replicate}
 use Rattle.octets.specs.Choice.{one}
-use Rattle.octets.specs.Search.{sameList}
 use Rattle.octets.specs.Numbers.{u16At, u32At, be16, be32}
 use Rattle.octets.specs.Parts.{part, parts, joined}
+use Rattle.octets.specs.Search.{sameList}
 use Rattle.kinds.specs.Clock.{clockOf}
 use Rattle.kinds.specs.declared.Clock.{Clock}
 use Rattle.kinds.specs.declared.Meters.{Meters}
@@ -102,11 +102,11 @@ pub record Whole (b : List ℕ) : Type 0 where
   pub marks : MarksOk b
   pub rows : RowsOk b
 
+-- the same as a test: the bytes are those of the farm that they mean (proofs/WholeTest)
+unfoldable pub wholeBlock : List ℕ → Bool
+wholeBlock b = sameList (image (farmOf b)) b
+
 -- a block that holds just this farm
 pub record Holds (b : List ℕ) (f : Farm) : Type 0 where
   pub is : farmOf b ≡ f
   pub whole : Whole b
-
--- the same as a test: the bytes are those of the farm that they mean (proofs/WholeLaws)
-unfoldable pub wholeBlock : List ℕ → Bool
-wholeBlock b = sameList (image (farmOf b)) b

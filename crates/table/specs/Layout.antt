@@ -2,6 +2,7 @@
 -- Assumes nothing: these are definitions.
 use Prim.Native.Nat.{ℕ, _+_, _*_}
 use Rattle.rowbytes.specs.RowLayout.{rowSize}
+use Rattle.sheet.specs.Sheet.{mostFarms}
 
 -- "its at most nine rows": the seats that a block has room for
 abbrev pub seats : ℕ
@@ -39,3 +40,8 @@ rowsAt = 33
 
 abbrev pub blockSize : ℕ
 blockSize = rowsAt + seats * rowSize
+
+-- ---- the table: a block for each farm that a sheet can have
+
+abbrev pub tableSize : ℕ
+tableSize = mostFarms * blockSize

@@ -13,6 +13,11 @@ pub const SEATS: usize = 9;
 
 pub const BLOCK: usize = ROWS + SEATS * ROW;
 
+// "farms 1 to 4": the table has a block for each.
+pub const FARMS: usize = 4;
+
+pub const TABLE: usize = FARMS * BLOCK;
+
 const METERS: usize = 0;
 
 const LINE: usize = 12;

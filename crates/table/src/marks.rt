@@ -5,6 +5,7 @@ ghost use Prim.Native.Nat.{_<_};
 ghost use lib.ListN.{length, set};
 ghost use Rattle.octets.specs.Choice.{one};
 ghost use Rattle.model.specs.Farm.{withMarks};
+ghost use Rattle.model.specs.Line.{isMarked};
 ghost use Rattle.table.specs.Layout.{seats, blockSize};
 ghost use Rattle.table.specs.Block.{farmOf, Whole, Holds};
 use crate::MARKS;
@@ -17,6 +18,14 @@ pub fn mark(m: [bool; SEATS], seat: usize) -> [bool; SEATS]
     let mut n = m;
     n[seat] = true;
     n
+}
+
+// The mark of one row.
+pub fn mark_at(b: &[u8], seat: usize) -> bool
+    requires { ⌜ (seat < seats) × (length (now b) ≡ blockSize) ⌝ }
+    ensures { λ r. ⌜ r ≡ isMarked (farmOf (now (b .entry)) .marks) seat ⌝ }
+{
+    b[MARKS + seat] == 1
 }
 
 pub fn marks_at(b: &[u8]) -> [bool; SEATS]
