@@ -1,3 +1,4 @@
 pub mod AnswerLaws
 pub mod BlockLaws
 pub mod MovedLaws
+pub mod ServeLaws

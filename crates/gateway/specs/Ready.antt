@@ -19,3 +19,9 @@ pub record Ready (s t : List ℕ) (f : ℕ) : Type 0 where
   pub long : length t ≡ tableSize
   pub whole : Whole (block t f)
   pub good : Good (farmSheet s f) (farmOf (block t f))
+
+-- of every farm of the sheet
+pub record AllReady (s t : List ℕ) : Type 0 where
+  pub sheet : GoodSheet s
+  pub long : length t ≡ tableSize
+  pub each : (f : ℕ) → f < farmCount s → Ready s t f

@@ -18,12 +18,18 @@ ghost use Rattle.lent.specs.Served.{memory, Served};
 ghost use Rattle.gateway.specs.Ready.{Ready};
 ghost use Rattle.gateway.specs.Moved.{DidAt, Moved};
 use crate::answer;
+use crate::at;
+use crate::gate;
 use kinds::FarmNo;
+use kinds::RowNo;
 use kinds::Site;
 use lent::Answer;
 use outsheet::plan;
 use outsheet::plan::PLAN;
+use sheet::farms;
+use sheet::rows;
 use table::BLOCK;
+use table::TABLE;
 
 // The farm's block is lent alone.
 fn peer_closed_at(t: &mut [u8], p: &mut [u8], f: usize, site: Site, seat: usize)
@@ -66,4 +72,37 @@ fn close_farm(s: &[u8], t: &mut [u8], out: &mut [u8], f: FarmNo) -> Answer
     plan::empty(p);
     link_lost_at(t, p, f.0 as usize, site);
     answer::finish_short(out, p, answer::NO_ROW)
+}
+
+// "Peer closed gives one close for that row."
+pub fn peer_closed(s: &[u8], t: &mut [u8; TABLE], out: &mut [u8], m: &[u8], row: RowNo) -> Answer
+    ensures { λ r. ⌜ Served (now (s .entry)) (lentStep (now (s .entry)) (now (t .entry)) (now (out .entry)) (now (m .entry)) (peerClosedOn (row .0))) r (memory (now (t .entry)) (now (out .entry)) (now (m .entry))) (memory (now (t .exit)) (now (out .exit)) (now (m .entry))) ⌝ }
+{
+    let n = gate::refusal(s, t, out, m);
+    if 0 < n {
+        return answer::refused(n);
+    }
+    let owner = rows::owner_of(s, row);
+    let rows::Owner::Seat(f, k) = owner else {
+        return answer::refused(6);
+    };
+    let seat = octets::wide(k);
+    if !at::is_open(t, f, seat) {
+        return answer::refused(6);
+    }
+    close_row(s, t, out, f, seat)
+}
+
+// "Link lost: one close per open row, lowest first."
+pub fn link_lost(s: &[u8], t: &mut [u8; TABLE], out: &mut [u8], m: &[u8], f: FarmNo) -> Answer
+    ensures { λ r. ⌜ Served (now (s .entry)) (lentStep (now (s .entry)) (now (t .entry)) (now (out .entry)) (now (m .entry)) (linkLostOf (f .0))) r (memory (now (t .entry)) (now (out .entry)) (now (m .entry))) (memory (now (t .exit)) (now (out .exit)) (now (m .entry))) ⌝ }
+{
+    let n = gate::refusal(s, t, out, m);
+    if 0 < n {
+        return answer::refused(n);
+    }
+    if !farms::has_farm(s, f) {
+        return answer::refused(5);
+    }
+    close_farm(s, t, out, f)
 }

@@ -35,7 +35,7 @@ use Rattle.lent.proofs.LentLaws.{slot-farm, slot-none}
 abbrev pub Exact : List ℕ → Type 0
 Exact t = (f : ℕ) → f < mostFarms → image (farmOf (block t f)) ≡ block t f
 
-block-says : (b : List ℕ) → Says (wholeBlock b) (image (farmOf b) ≡ b)
+pub block-says : (b : List ℕ) → Says (wholeBlock b) (image (farmOf b) ≡ b)
 unfolding wholeBlock
 block-says b = same-says (image (farmOf b)) b
 

@@ -9,7 +9,7 @@ use native.Mathlib.Nat.{eq-or-lt-of-le}
 use native.Mathlib.Omega.{arith}
 use Rattle.octets.specs.Choice.{both}
 use Rattle.octets.specs.Says.{Says}
-use Rattle.octets.proofs.SaysLaws.{says-yes, says-of}
+use Rattle.octets.proofs.SaysLaws.{says-yes, says-of, says-same}
 use Rattle.octets.proofs.ChoiceLaws.{says-both, says-true}
 use Rattle.sheet.specs.Sheet.{mostFarms}
 use Rattle.sheet.specs.Test.{everyBelow}
@@ -20,12 +20,6 @@ use Rattle.model.specs.RuleTest.{goodFarm}
 use Rattle.model.specs.Table.{goodFrom, goodTable}
 use Rattle.table.specs.Block.{farmOf, wholeBlock}
 use Rattle.lent.specs.Lent.{block, wholeTable, heldAt, slotsFrom, lentTable}
-
--- two tests of one statement
-pub says-once : {P : Type 0} (a b : Bool) → Says a P → Says b P → a ≡ b
-says-once true b p q = sym (q .all (p .right refl))
-says-once false true p q = p .all (q .right refl)
-says-once false false p q = refl
 
 module _ (s : List ℕ) (held : ℕ → Held) where
   abbrev Each : ℕ → ℕ → Type 0
@@ -62,7 +56,7 @@ module _ (s t m : List ℕ) where
   pub keeps-is : everyBelow slotKeeps mostFarms ≡ both (wholeTable t) (goodTable s (lentTable s t m))
   unfolding wholeTable
   keeps-is =
-      says-once (everyBelow slotKeeps mostFarms) (both (wholeTable t) (goodTable s (lentTable s t m)))
+      says-same {a = everyBelow slotKeeps mostFarms} {b = both (wholeTable t) (goodTable s (lentTable s t m))}
       (says-of
       (λ (x : (f : ℕ) → f < mostFarms → (wholeBlock (block t f) ≡ true) × (goodFarm (slotSheet s f) (farmOf (block t f)) ≡ true)).
       (λ (f : ℕ) (h : f < mostFarms). x f h .0, λ (f : ℕ) (h : f < mostFarms). x f h .1))

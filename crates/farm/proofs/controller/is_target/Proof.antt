@@ -1,5 +1,6 @@
 -- `controller::is_target` meets its contract.
 -- Assumes nothing.
+use Rattle.sheet.proofs.LengthLaws.{good-lengths}
 use mathlib.Core.Path.{sym, ap, _∙_}
 use Rattle.sheet.specs.declared.find.Found.{Found}
 use Rattle.model.specs.FarmSheet.{targetBy, farmSheet}
@@ -10,7 +11,7 @@ use Rattle.farm.proofs.controller.is_target.Statement.{statement}
 use Rattle.farm.proofs.controller.is_target.Tie as tie
 
 find-target-requires : tie.Need-find-target-requires
-find-target-requires c κs = search needs
+find-target-requires c κs = good-lengths _ (c .before .pre) .whole
 
 enum-known-found : tie.Need-enum-known-found
 enum-known-found c = search needs

@@ -1,5 +1,6 @@
 -- `diagnostic::code_for` meets its contract.
 -- Assumes nothing.
+use Rattle.sheet.proofs.LengthLaws.{good-lengths}
 use mathlib.Core.Path.{sym, _∙_}
 use Rattle.messages.proofs.DiagnosticLaws.{target-nobody, target-other, target-reachable, target-unreachable}
 use borrow.Author.Needs.{needs}
@@ -7,7 +8,7 @@ use Rattle.messages.proofs.diagnostic.code_for.Statement.{statement}
 use Rattle.messages.proofs.diagnostic.code_for.Tie as tie
 
 find-target-requires : tie.Need-find-target-requires
-find-target-requires c κs = search needs
+find-target-requires c κs = good-lengths _ (c .before .pre) .whole
 
 enum-known-k : tie.Need-enum-known-k
 enum-known-k c = search needs

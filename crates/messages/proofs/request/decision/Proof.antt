@@ -1,5 +1,6 @@
 -- `request::decision` meets its contract.
 -- Assumes nothing.
+use Rattle.sheet.proofs.LengthLaws.{good-lengths}
 use mathlib.Core.List.{List}
 use Rattle.kinds.specs.declared.Row.{Row}
 use Rattle.model.specs.Row.{rowAt}
@@ -15,7 +16,7 @@ use Rattle.messages.proofs.request.decision.Statement.{statement}
 use Rattle.messages.proofs.request.decision.Tie as tie
 
 find-tester-requires : tie.Need-find-tester-requires
-find-tester-requires c κs = search needs
+find-tester-requires c κs = good-lengths _ (c .before .before .pre .0 .good) .whole
 
 enum-known-k : tie.Need-enum-known-k
 enum-known-k c = search needs

@@ -1,5 +1,6 @@
 -- `seat::is_tester` meets its contract.
 -- Assumes nothing.
+use Rattle.sheet.proofs.LengthLaws.{good-lengths}
 use mathlib.Core.Path.{sym, ap, _∙_}
 use Rattle.model.specs.FarmSheet.{testerBy}
 use borrow.Author.Needs.{needs}
@@ -7,7 +8,7 @@ use Rattle.rules.proofs.seat.is_tester.Statement.{statement}
 use Rattle.rules.proofs.seat.is_tester.Tie as tie
 
 find-tester-requires : tie.Need-find-tester-requires
-find-tester-requires c κs = search needs
+find-tester-requires c κs = good-lengths _ (c .before .pre) .whole
 
 enum-known-found : tie.Need-enum-known-found
 enum-known-found c = search needs
