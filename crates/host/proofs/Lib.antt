@@ -1,0 +1,3 @@
+pub mod HistoryLaws
+pub mod RoomLaws
+pub mod Promises
