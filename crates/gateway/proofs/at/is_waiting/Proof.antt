@@ -1,0 +1,45 @@
+-- `at::is_waiting` meets its contract.
+-- Assumes nothing.
+use borrow.Author.Needs.{needs}
+use Rattle.gateway.proofs.at.is_waiting.Statement.{statement}
+use Rattle.gateway.proofs.at.is_waiting.Tie as tie
+use Rattle.gateway.proofs.at.is_waiting.Reads as reads
+use Rattle.gateway.proofs.at.is_waiting.Lts as lts
+use Rattle.farm.proofs.ask.is_waiting.Reads as is-waiting-reads
+
+cast-a : tie.Need-cast-a
+cast-a c = search needs
+
+mul-a : tie.Need-mul-a
+mul-a c = search needs
+
+add-e : tie.Need-add-e
+add-e c = search needs
+
+sub-is-waiting : tie.Need-sub-is-waiting
+sub-is-waiting c = search needs
+
+part-is-waiting-start : tie.Need-part-is-waiting-start
+part-is-waiting-start c = search needs
+
+part-is-waiting-end : tie.Need-part-is-waiting-end
+part-is-waiting-end c = search needs
+
+is-waiting-requires : tie.Need-is-waiting-requires
+is-waiting-requires c κs = search needs
+
+returns : tie.Need-returns
+returns c = ?
+
+pub is-waiting-spec : {M : Type 1} → statement M
+is-waiting-spec =
+    tie.close
+    (tie.spec
+    cast-a
+    mul-a
+    add-e
+    sub-is-waiting
+    part-is-waiting-start
+    part-is-waiting-end
+    is-waiting-requires
+    returns)
