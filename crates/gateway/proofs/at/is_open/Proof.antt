@@ -1,5 +1,11 @@
 -- `at::is_open` meets its contract.
 -- Assumes nothing.
+use mathlib.Core.Path.{ap, _∙_}
+use mathlib.Core.List.{List}
+use Prim.Native.Nat.{ℕ}
+use Rattle.model.specs.Row.{rowAt, isOpen}
+use Rattle.table.specs.Block.{farmOf}
+use Rattle.gateway.proofs.BlockLaws.{lent-is}
 use borrow.Author.Needs.{needs}
 use Rattle.gateway.proofs.at.is_open.Statement.{statement}
 use Rattle.gateway.proofs.at.is_open.Tie as tie
@@ -29,7 +35,7 @@ is-open-requires : tie.Need-is-open-requires
 is-open-requires c κs = search needs
 
 returns : tie.Need-returns
-returns c = ?
+returns c = c .is-open .ensures ∙ ap (λ (b : List ℕ). isOpen (rowAt (farmOf b .rows) (c .before .before .before .before .args .seat))) (lent-is (c .before .before .before .before .args .t .now) (c .before .before .before .before .args .f .0))
 
 pub is-open-spec : {M : Type 1} → statement M
 is-open-spec =

@@ -1,5 +1,11 @@
 -- `at::open_rows` meets its contract.
 -- Assumes nothing.
+use mathlib.Core.Path.{ap, _∙_}
+use mathlib.Core.List.{List}
+use Prim.Native.Nat.{ℕ}
+use Rattle.model.specs.Move.{openRows}
+use Rattle.table.specs.Block.{farmOf}
+use Rattle.gateway.proofs.BlockLaws.{lent-is}
 use borrow.Author.Needs.{needs}
 use Rattle.gateway.proofs.at.open_rows.Statement.{statement}
 use Rattle.gateway.proofs.at.open_rows.Tie as tie
@@ -29,7 +35,7 @@ open-rows-requires : tie.Need-open-rows-requires
 open-rows-requires c κs = search needs
 
 returns : tie.Need-returns
-returns c = ?
+returns c = c .open-rows .ensures ∙ ap (λ (b : List ℕ). openRows (farmOf b)) (lent-is (c .before .before .before .before .args .t .now) (c .before .before .before .before .args .f .0))
 
 pub open-rows-spec : {M : Type 1} → statement M
 open-rows-spec =

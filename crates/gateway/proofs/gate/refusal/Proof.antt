@@ -1,5 +1,10 @@
 -- `gate::refusal` meets its contract.
 -- Assumes nothing.
+use mathlib.Core.Path.{sym, _∙_}
+use native.Mathlib.Omega.{arith}
+use borrow.Author.Tests.{not-true, not-false}
+use Rattle.lent.proofs.GateLaws.{start-passes}
+use Rattle.gateway.proofs.KeepLaws.{gate-stop, gate-broken, gate-good}
 use borrow.Author.Needs.{needs}
 use Rattle.gateway.proofs.gate.refusal.Statement.{statement}
 use Rattle.gateway.proofs.gate.refusal.Tie as tie
@@ -12,16 +17,16 @@ start-refusal-requires : tie.Need-start-refusal-requires
 start-refusal-requires c κs = search needs
 
 returns : tie.Need-returns
-returns c = ?
+returns c = gate-stop _ _ _ _ _ (c .before .start-refusal .ensures) (c .if1 .taken)
 
 table-keeps-requires : tie.Need-table-keeps-requires
-table-keeps-requires c κs = ?
+table-keeps-requires c κs = (c .before .before .before .before .before .before .pre, start-passes _ _ _ (sym (c .before .start-refusal .ensures) ∙ omega (arith, c .if1 .left)) .sheet)
 
 returns-2 : tie.Need-returns-2
-returns-2 c = ?
+returns-2 c = gate-broken _ _ _ _ (start-passes _ _ _ (sym (c .before .before .before .start-refusal .ensures) ∙ omega (arith, c .before .before .if1 .left))) (sym (c .before .table-keeps .ensures) ∙ not-true _ (c .if2 .taken))
 
 returns-3 : tie.Need-returns-3
-returns-3 c = ?
+returns-3 c = gate-good _ _ _ _ (start-passes _ _ _ (sym (c .before .before .before .start-refusal .ensures) ∙ omega (arith, c .before .before .if1 .left))) (sym (c .before .table-keeps .ensures) ∙ not-false _ (c .if2 .left))
 
 pub refusal-spec : {M : Type 1} → statement M
 refusal-spec =

@@ -1,5 +1,8 @@
 -- `meters::meters` meets its contract.
 -- Assumes nothing.
+use mathlib.Core.Path.{_∙_}
+use native.Mathlib.Omega.{arith}
+use Rattle.gateway.proofs.MeterLaws.{slot-meters, no-meters}
 use borrow.Author.Needs.{needs}
 use Rattle.gateway.proofs.meters.meters.Statement.{statement}
 use Rattle.gateway.proofs.meters.meters.Tie as tie
@@ -14,10 +17,10 @@ meters-at-requires : tie.Need-meters-at-requires
 meters-at-requires c κs = search needs
 
 returns : tie.Need-returns
-returns c = ?
+returns c = λ s m. c .meters-at .ensures ∙ slot-meters s _ m _ (omega (arith, c .before .before .if1 .taken))
 
 returns-2 : tie.Need-returns-2
-returns-2 c = ?
+returns-2 c = λ s m. no-meters s _ m _ (omega (arith, c .if1 .left))
 
 pub meters-spec : {M : Type 1} → statement M
 meters-spec = tie.close (tie.spec cast-i meters-at-requires returns returns-2)

@@ -1,5 +1,10 @@
 -- `meters::meters_at` meets its contract.
 -- Assumes nothing.
+use mathlib.Core.Path.{ap, _∙_}
+use mathlib.Core.List.{List}
+use Prim.Native.Nat.{ℕ}
+use Rattle.table.specs.Block.{farmOf}
+use Rattle.gateway.proofs.BlockLaws.{lent-is}
 use borrow.Author.Needs.{needs}
 use Rattle.gateway.proofs.meters.meters_at.Statement.{statement}
 use Rattle.gateway.proofs.meters.meters_at.Tie as tie
@@ -26,7 +31,7 @@ meters-at-requires : tie.Need-meters-at-requires
 meters-at-requires c κs = search needs
 
 returns : tie.Need-returns
-returns c = ?
+returns c = c .meters-at .ensures ∙ ap (λ (b : List ℕ). farmOf b .meters) (lent-is (c .before .before .before .args .t .now) (c .before .before .before .args .f))
 
 pub meters-at-spec : {M : Type 1} → statement M
 meters-at-spec =
