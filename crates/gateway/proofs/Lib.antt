@@ -4,3 +4,4 @@ pub mod MovedLaws
 pub mod ServeLaws
 pub mod KeepLaws
 pub mod MeterLaws
+pub mod CallsLaws

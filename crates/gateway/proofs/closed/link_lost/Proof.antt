@@ -1,5 +1,15 @@
 -- `closed::link_lost` meets its contract.
 -- Assumes nothing.
+use Rattle.model.specs.Table.{whose, leastOutput}
+use mathlib.Core.Path.{refl, sym, _∙_}
+use native.Mathlib.Omega.{arith}
+use borrow.Author.Tests.{not-true, not-false, ltb-true, ltb-false}
+use Rattle.sheet.proofs.LengthLaws.{good-lengths}
+use Rattle.lent.proofs.GateLaws.{gate-passes}
+use Rattle.lent.proofs.CallLaws.{refused-as, gate-served}
+use Rattle.model.specs.Move.{linkLost}
+use Rattle.gateway.proofs.ServeLaws.{ready-of, farm-unknown}
+use Rattle.gateway.proofs.CallsLaws.{link-served}
 use borrow.Author.Needs.{needs}
 use Rattle.gateway.proofs.closed.link_lost.Statement.{statement}
 use Rattle.gateway.proofs.closed.link_lost.Tie as tie
@@ -20,10 +30,10 @@ same-length : tie.Need-same-length
 same-length c = search needs
 
 returns : tie.Need-returns
-returns c = ?
+returns c = gate-served _ _ _ _ _ _ _ (c .before .before .refusal .ensures) (c .before .if1 .taken) (c .refused .ensures)
 
 has-farm-requires : tie.Need-has-farm-requires
-has-farm-requires c κs = ?
+has-farm-requires c κs = good-lengths _ ((gate-passes _ _ _ _ (sym (c .before .refusal .ensures) ∙ omega (arith, c .if1 .left))) .lendable .sheet) .header
 
 refused-requires-2 : tie.Need-refused-requires-2
 refused-requires-2 c κs = search needs
@@ -32,16 +42,18 @@ same-length-2 : tie.Need-same-length-2
 same-length-2 c = search needs
 
 returns-2 : tie.Need-returns-2
-returns-2 c = ?
+unfolding whose
+returns-2 c = refused-as _ _ 5 _ _ (c .refused2 .ensures) (farm-unknown _ _ _ _ (gate-passes _ _ _ _ (sym (c .before .before .before .before .refusal .ensures) ∙ omega (arith, c .before .before .before .if1 .left))) (search needs) _ _ linkLost refl (ltb-false _ _ (sym (c .before .before .has-farm .ensures) ∙ not-true _ (c .before .if2 .taken))))
 
 close-farm-requires : tie.Need-close-farm-requires
-close-farm-requires c κs = ?
+unfolding leastOutput
+close-farm-requires c κs = (ready-of _ _ _ _ (gate-passes _ _ _ _ (sym (c .before .before .before .before .before .refusal .ensures) ∙ omega (arith, c .before .before .before .before .if1 .left))) (search needs) _ (ltb-true _ _ (sym (c .before .before .before .has-farm .ensures) ∙ not-false _ (c .before .before .if2 .left))), (gate-passes _ _ _ _ (sym (c .before .before .before .before .before .refusal .ensures) ∙ omega (arith, c .before .before .before .before .if1 .left))) .lendable .output)
 
 same-length-3 : tie.Need-same-length-3
 same-length-3 c = search needs
 
 returns-3 : tie.Need-returns-3
-returns-3 c = ?
+returns-3 c = link-served _ _ _ _ (gate-passes _ _ _ _ (sym (c .before .before .before .before .before .before .before .before .refusal .ensures) ∙ omega (arith, c .before .before .before .before .before .before .before .if1 .left))) (search needs) _ _ _ _ (ltb-true _ _ (sym (c .before .before .before .before .before .before .has-farm .ensures) ∙ not-false _ (c .before .before .before .before .before .if2 .left))) (c .before .before .close-farm .ensures)
 
 pub link-lost-spec : {M : Type 1} → statement M
 link-lost-spec =
