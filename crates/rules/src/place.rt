@@ -12,6 +12,7 @@ use kinds::Fault;
 use kinds::Place;
 use kinds::Verdict;
 use wire::header;
+use wire::header::Header;
 
 const HEADER: usize = 8;
 
@@ -48,11 +49,17 @@ fn is_skipped(v: Verdict) -> bool
 
 // ---- a payload that is read or skipped: only here is the header judged again
 
+fn is_unfinished(h: Header, n: u32) -> bool
+    ensures { λ r. ⌜ r ≡ ltb n (h .length) ⌝ }
+{
+    n < h.length
+}
+
 fn reads(head: [u8; HEADER], n: u32) -> bool
     ensures { λ r. ⌜ r ≡ both (ltb n (headerAt head 0 .length)) (passes (verdictOf (headerAt head 0))) ⌝ }
 {
     let h = header::read(&head, 0);
-    if h.length <= n {
+    if !is_unfinished(h, n) {
         return false;
     }
     let v = header::judge(h);
@@ -63,7 +70,7 @@ fn skips(head: [u8; HEADER], n: u32) -> bool
     ensures { λ r. ⌜ r ≡ both (ltb n (headerAt head 0 .length)) (isSkipped (verdictOf (headerAt head 0))) ⌝ }
 {
     let h = header::read(&head, 0);
-    if h.length <= n {
+    if !is_unfinished(h, n) {
         return false;
     }
     let v = header::judge(h);
