@@ -115,7 +115,15 @@ fn fresh_keeps(b: &[u8], rows: usize, i: usize, age: Clock) -> bool
 }
 
 // "a waiting row has bytes in hand, or its request would get 00 or 06"
-fn waiting_keeps(b: &[u8], s: &[u8], f: FarmNo, rows: usize, i: usize, place: Place, q: Request) -> bool
+fn waiting_keeps(
+    b: &[u8],
+    s: &[u8],
+    f: FarmNo,
+    rows: usize,
+    i: usize,
+    place: Place,
+    q: Request,
+) -> bool
     requires { ⌜ (length (now b) ≡ blockSize) × GoodSheet (now s) ⌝ }
     ensures { λ r. ⌜ r ≡ waitingKeeps (testerIn (now (s .entry)) (f .0)) rows (farmOf (now (b .entry))) i place q ⌝ }
 {
@@ -135,7 +143,15 @@ fn waiting_keeps(b: &[u8], s: &[u8], f: FarmNo, rows: usize, i: usize, place: Pl
 }
 
 // "an active address isn't that farm's tester or is active twice", "an idle count 30,000 or more"
-fn active_keeps(b: &[u8], s: &[u8], f: FarmNo, rows: usize, i: usize, address: u16, idle: Clock) -> bool
+fn active_keeps(
+    b: &[u8],
+    s: &[u8],
+    f: FarmNo,
+    rows: usize,
+    i: usize,
+    address: u16,
+    idle: Clock,
+) -> bool
     requires { ⌜ (i < seats) × (length (now b) ≡ blockSize) × GoodSheet (now s) ⌝ }
     ensures { λ r. ⌜ r ≡ activeKeeps (testerIn (now (s .entry)) (f .0)) rows (farmOf (now (b .entry))) i address idle ⌝ }
 {
@@ -154,7 +170,15 @@ fn active_keeps(b: &[u8], s: &[u8], f: FarmNo, rows: usize, i: usize, address: u
     !again_after(b, i, address)
 }
 
-fn state_keeps(b: &[u8], s: &[u8], f: FarmNo, rows: usize, i: usize, place: Place, state: RowState) -> bool
+fn state_keeps(
+    b: &[u8],
+    s: &[u8],
+    f: FarmNo,
+    rows: usize,
+    i: usize,
+    place: Place,
+    state: RowState,
+) -> bool
     requires { ⌜ (i < seats) × (length (now b) ≡ blockSize) × GoodSheet (now s) ⌝ }
     ensures { λ r. ⌜ r ≡ stateKeeps (testerIn (now (s .entry)) (f .0)) rows (farmOf (now (b .entry))) i place state ⌝ }
 {
