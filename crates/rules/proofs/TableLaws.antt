@@ -1,6 +1,6 @@
 -- What the test of the table says: each block's bytes are those of a farm, and the farm keeps every rule of rule 4.
 -- Assumes nothing.
-use Prim.Native.Nat.{ℕ, _*_, _≤_, _<_}
+use Prim.Native.Nat.{ℕ, _*_, _<_}
 use mathlib.Core.Path.{_≡_}
 use mathlib.Core.List.{List}
 use mathlib.Core.Bool.{true}

@@ -1,7 +1,7 @@
 // "a stream place is impossible: eight header bytes or more still unjudged, a payload already complete, a payload being read whose header
 // would be judged wrong, or one being skipped whose header would not get NACK 01 or 02"
 ghost use mathlib.Core.Path.{_≡_};
-ghost use Prim.Native.Nat.{_-_, _≤_};
+ghost use Prim.Native.Nat.{_-_};
 ghost use lib.Dec.{ltb};
 ghost use lib.ListN.{length, drop, replicate};
 ghost use Rattle.octets.specs.Choice.{both};
