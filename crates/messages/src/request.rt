@@ -63,10 +63,12 @@ fn decision(b: &[u8], s: &[u8], f: FarmNo, site: Site, seat: usize, q: Request) 
         return Decision::Now(NO_TESTER); // nobody's
     };
     let owner = k.farm;
-    if owner.0 != f.0 {
+    let ours = owner.0 == f.0;
+    let right_type = q.kind <= 1;
+    if !ours {
         return Decision::Now(NO_TESTER); // another farm's
     }
-    if 1 < q.kind {
+    if !right_type {
         return Decision::Now(WRONG_TYPE);
     }
     by_state(b, site, seat, q.address)
