@@ -224,3 +224,6 @@ if __name__ == "__main__":
     except (Fault, OSError) as fault:
         print(f"NOT {fault}")
         sys.exit(1)
+    except (ValueError, IndexError, struct.error) as fault:
+        print(f"NOT the lines or the day can't be read: {fault}")
+        sys.exit(1)
