@@ -11,7 +11,7 @@
  *              still alive. This takes at most half a second for each waiter that stands before it, and half a second for itself.
  *   active     A row whose routing activation was accepted.
  *   tester     The diagnostic equipment at the other end of a connection. Target, controller: what it wants to reach.
- *   farm sheet The configuration: farms, testers, targets. docs of the project and examples/host/sheet.py say how it is laid out.
+ *   farm sheet The configuration: farms, testers, targets. Its layout stands below; examples/host/sheet.py makes one from a text.
  *   tick       10 milliseconds. The core has no clock: you tell it that time has passed.
  *
  * WHAT YOU LEND, AND WHO OWNS IT
@@ -42,6 +42,19 @@
  *     DOKRAWIN_CLOSE     close this row's connection, after what was to be sent on it before has gone out
  *     DOKRAWIN_HAND_ON   a diagnostic message to carry to a controller: its payload, that is source address (2 bytes), target address
  *                        (2 bytes), user data (1 byte or more). The row is the one that it came from.
+ *
+ * THE FARM SHEET
+ *
+ *   12 bytes: how many farms (1 to 4), testers (0 to 32) and targets (0 to 64) there are, then where each of the three sections begins,
+ *   six numbers of two bytes. The sections follow in this order without gaps, so they begin at 12, at 12 + 33 * farms and at
+ *   12 + 33 * farms + 4 * testers, and the sheet ends where the last one ends.
+ *
+ *     farm, 33 bytes     entity address (2), quota (1 to 8), power mode (0 not ready, 1 ready, 2 not supported), VIN (17), EID (6), GID (6)
+ *     tester, 4 bytes    address (2), number of its farm, 0
+ *     target, 4 bytes    address (2), number of its farm, 1 if it can be reached, else 0
+ *
+ *   Testers stand in ascending order of their addresses, and none twice; targets likewise. No address is 0. The farms' rows, a quota and
+ *   one more each, are at most 16 together: farm 0 owns rows 0 to its quota, farm 1 the next ones, and so on.
  *
  * YOUR DUTIES
  *
