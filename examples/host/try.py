@@ -4,7 +4,7 @@
     try.py [COMMAND]      COMMAND starts the host; `run` in this folder if none is given
 
 It prints what happened, a line for each thing tried, and fails (exit 1) at the first byte that is not as document 01 says. It takes
-about 15 seconds, because some of it is waiting.
+some seconds, because part of it is waiting.
 """
 import os
 import socket
@@ -236,7 +236,7 @@ def main():
         clocks_and_links(host)
         meters(host)
         no_reader(host)
-    except (AssertionError, OSError) as fault:
+    except (AssertionError, OSError, subprocess.TimeoutExpired) as fault:
         print(f"NOT {fault}")
         print("the host's last lines:", *host.lines[-10:], sep="\n  ")
         host.process.kill()
