@@ -1,5 +1,13 @@
 -- `tick::tick_at` meets its contract.
 -- Assumes nothing.
+use mathlib.Core.Path.{sym, subst}
+use mathlib.Core.List.{List}
+use Prim.Native.Nat.{ℕ}
+use Rattle.model.specs.Move.{ticked}
+use Rattle.outsheet.specs.Plan.{PlanOk}
+use Rattle.table.specs.Block.{farmOf, Whole}
+use Rattle.rowwork.specs.Did.{siteSheet, RowsFit, Seated}
+use Rattle.gateway.proofs.BlockLaws.{lent-is, did-lent}
 use borrow.Author.Needs.{needs}
 use Rattle.gateway.proofs.tick.tick_at.Statement.{statement}
 use Rattle.gateway.proofs.tick.tick_at.Tie as tie
@@ -23,7 +31,9 @@ part-tick-end : tie.Need-part-tick-end
 part-tick-end c = search needs
 
 tick-requires : tie.Need-tick-requires
-tick-requires c κs = ?
+tick-requires c κs = let s = c .before .before .before .before in
+    subst (λ (b : List ℕ). Seated (farmOf b .line) × RowsFit (s .args .site) × Whole b × PlanOk (s .args .p .now)) (sym (lent-is (s .args .t .now) (s .args .f)))
+    (s .pre .2, s .pre .3, s .pre .4, s .pre .5)
 
 same-length : tie.Need-same-length
 same-length c = search needs
@@ -32,7 +42,8 @@ same-length-2 : tie.Need-same-length-2
 same-length-2 c = search needs
 
 returns : tie.Need-returns
-returns c = ?
+returns c = let s = c .before .before .before .before .before .before .before .before .before in
+    did-lent _ _ _ _ (s .args .f) (ticked (siteSheet (s .args .site))) (s .pre .1) (s .pre .0) (c .before .before .before .before .tick .ensures)
 
 pub tick-at-spec : {M : Type 1} → statement M
 tick-at-spec =
