@@ -30,7 +30,7 @@ use Rattle.table.specs.Layout.{tableSize}
 use Rattle.table.specs.Block.{farmOf, image, Whole, Holds}
 use Rattle.table.proofs.BlockLaws.{exact}
 use Rattle.rowwork.specs.Did.{siteSheet, pushedAll}
-use Rattle.rowwork.proofs.DidLaws.{pushed-none, pushed-append}
+use Rattle.rowwork.proofs.DidLaws.{pushed-none, pushed-append, pushed-first}
 use Rattle.site.specs.Site.{Sited}
 use Rattle.site.proofs.SiteLaws.{sited-same}
 use Rattle.room.proofs.Moves.{Small}
@@ -113,6 +113,9 @@ module _ {s t : List ℕ} where
             ∙ ap (pushedAll []) (ticks-more s t n);
         ok = own .did .ok;
       }
+
+  pub ticked-all : {plan after : List ℕ} {n k : ℕ} → TickedTo s t n plan after → n ≡ k → TickedTo s t k plan after
+  ticked-all {plan} {after} x e = subst (λ (i : ℕ). TickedTo s t i plan after) e x
 
 -- ---- slot by slot, as the model says it
 
@@ -200,6 +203,10 @@ module _ {s t : List ℕ} (all : AllReady s t) where
   ticks-small =
       subst (λ (i : List Item). Small i []) (items-are s t [] (farmCount s) (omega arith))
       (called-small s (slotsFrom (heldAt s t []) 0 (farmCount s)) (all .sheet) (goods 0 (farmCount s) (omega arith)) tick)
+
+  -- so the plan says them all
+  pub ticked-items : {plan after : List ℕ} → TickedTo s t (farmCount s) plan after → itemsOf plan ≡ ticksTo s t (farmCount s)
+  ticked-items x = x .said ∙ pushed-first (ticksTo s t (farmCount s)) (ticks-small .few)
 
 -- ---- the call
 
