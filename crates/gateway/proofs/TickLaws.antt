@@ -7,13 +7,12 @@ use mathlib.Core.Bool.{Bool, true}
 use mathlib.Core.List.{List, [], _∷_, _++_, append-assoc, append-nil}
 use mathlib.Core.Logic.{⊎-elim}
 use native.Mathlib.Nat.{eq-or-lt-of-le}
+use native.Mathlib.Numerals.{add-one}
 use native.Mathlib.Omega.{arith}
 use lib.ListN.{length}
 use borrow.Author.Tests.{lt-ltb, le-ltb}
 use Rattle.octets.specs.Choice.{pick}
 use Rattle.octets.specs.Fold.{upTo}
-use Rattle.octets.specs.Says.{Says}
-use Rattle.octets.proofs.FoldLaws.{upTo-more}
 use Rattle.kinds.specs.declared.Item.{Item}
 use Rattle.kinds.specs.declared.Site.{Site}
 use Rattle.sheet.specs.Sheet.{mostFarms, farmCount}
@@ -26,7 +25,6 @@ use Rattle.model.specs.Rule.{Good}
 use Rattle.model.specs.Table.{Table, Did, did, heldBy, itemsBy, slotTick, tickTable, tickItems, tick, whose}
 use Rattle.model.proofs.RuleKept.{GoodAll}
 use Rattle.model.proofs.SameSite.{ticked-same}
-use Rattle.table.specs.Layout.{tableSize}
 use Rattle.table.specs.Block.{farmOf, image, Whole, Holds}
 use Rattle.table.proofs.BlockLaws.{exact}
 use Rattle.rowwork.specs.Did.{siteSheet, pushedAll}
@@ -43,7 +41,7 @@ use Rattle.lent.proofs.LentLaws.{slot-farm, block-other}
 use Rattle.lent.proofs.BytesLaws.{Exact, whole-exact}
 use Rattle.lent.proofs.GateLaws.{goes-on}
 use Rattle.lent.proofs.MoveLaws.{moved-long}
-use Rattle.lent.proofs.ServedLaws.{Left, served-did}
+use Rattle.lent.proofs.ServedLaws.{served-did}
 use Rattle.gateway.specs.Ready.{Ready, AllReady}
 use Rattle.gateway.specs.Moved.{DidAt}
 use Rattle.gateway.specs.Ticked.{farmTick, ticksTo, Farms, TickedTo, TickedOut}
@@ -75,8 +73,8 @@ module _ {s t : List ℕ} (all : AllReady s t) where
       }
 
 ticks-more : (s t : List ℕ) (n : ℕ) → ticksTo s t n ++ farmTick s t n .items ≡ ticksTo s t (n + 1)
-unfolding ticksTo
-ticks-more s t n = upTo-more (λ (f : ℕ) (items : List Item). items ++ farmTick s t f .items) [] (ticksTo s t n) n refl
+unfolding ticksTo upTo
+ticks-more s t n = ap (ticksTo s t) (sym (add-one n))
 
 module _ {s t : List ℕ} where
   farms-more : {mid after : List ℕ} (n : ℕ) → n < mostFarms → Farms s t n mid → Only n mid after → Holds (block after n) (farmTick s t n .farm)
