@@ -5,3 +5,4 @@ pub mod ServeLaws
 pub mod KeepLaws
 pub mod MeterLaws
 pub mod CallsLaws
+pub mod TickLaws
