@@ -2,3 +2,4 @@ pub mod AnswerLaws
 pub mod BlockLaws
 pub mod MovedLaws
 pub mod ServeLaws
+pub mod SaidLaws

@@ -1,11 +1,14 @@
 -- `controller::message_at` meets its contract.
 -- Assumes nothing.
+use Prim.Native.Nat.{ℕ}
+use mathlib.Core.Path.{subst}
+use mathlib.Core.List.{List}
+use Rattle.table.specs.Block.{farmOf}
+use Rattle.farm.specs.Moves.{Messaged}
+use Rattle.gateway.proofs.BlockLaws.{lent-is}
 use borrow.Author.Needs.{needs}
 use Rattle.gateway.proofs.controller.message_at.Statement.{statement}
 use Rattle.gateway.proofs.controller.message_at.Tie as tie
-use Rattle.gateway.proofs.controller.message_at.Reads as reads
-use Rattle.gateway.proofs.controller.message_at.Lts as lts
-use Rattle.farm.proofs.controller.message.Reads as message-reads
 
 cast-a : tie.Need-cast-a
 cast-a c = search needs
@@ -32,7 +35,8 @@ same-length : tie.Need-same-length
 same-length c = search needs
 
 returns : tie.Need-returns
-returns c = ?
+returns c = let a = c .before .before .before .before .before .before .before .before .before .before .args in
+    subst (λ (b : List ℕ). Messaged (a .s .now) (a .f .0) (farmOf b) (a .p .now) (c .before .before .message .last .1 .0) (a .from) (a .to) (a .user .now) (c .before .before .message .result)) (lent-is (a .t .now) (a .f .0)) (c .before .before .message .ensures)
 
 pub message-at-spec : {M : Type 1} → statement M
 message-at-spec =

@@ -1,16 +1,13 @@
 -- `datagrams::reply` meets its contract.
 -- Assumes nothing.
+use mathlib.Core.Path.{_∙_, ap}
+use native.Mathlib.Omega.{arith}
+use lib.ListN.{length}
+use Rattle.model.specs.Move.{noRow}
+use Rattle.gateway.proofs.SaidLaws.{record-long, open-byte, answer-same, answer-room, answer-out}
 use borrow.Author.Needs.{needs}
 use Rattle.gateway.proofs.datagrams.reply.Statement.{statement}
 use Rattle.gateway.proofs.datagrams.reply.Tie as tie
-use Rattle.gateway.proofs.datagrams.reply.Reads as reads
-use Rattle.gateway.proofs.datagrams.reply.Lts as lts
-use Rattle.datagram.proofs.answer.Reads as answer-reads
-use Rattle.gateway.proofs.answer.finish.Reads as finish-reads
-use Rattle.gateway.proofs.at.open_rows.Reads as open-rows-reads
-use Rattle.gateway.proofs.datagrams.push_answer.Reads as push-answer-reads
-use Rattle.outsheet.proofs.plan.empty.Reads as empty-reads
-use Rattle.sheet.proofs.farms.record_of.Reads as record-of-reads
 
 record-of-requires : tie.Need-record-of-requires
 record-of-requires c κs = search needs
@@ -19,10 +16,10 @@ open-rows-requires : tie.Need-open-rows-requires
 open-rows-requires c κs = search needs
 
 cast-answer : tie.Need-cast-answer
-cast-answer c = ?
+cast-answer c = omega (arith, c .open-rows .ensures, open-byte (c .before .before .before .before .before .before .pre .0))
 
 answer-requires : tie.Need-answer-requires
-answer-requires c κs = ?
+answer-requires c κs = ap length (c .before .record-of .ensures) ∙ record-long (c .before .before .before .before .before .before .pre .0)
 
 slice-aggregate-p : tie.Need-slice-aggregate-p
 slice-aggregate-p c = search needs
@@ -34,13 +31,14 @@ push-answer-requires : tie.Need-push-answer-requires
 push-answer-requires c κs = search needs
 
 finish-requires : tie.Need-finish-requires
-finish-requires c κs = ?
+finish-requires c κs = answer-room _ _ _ (c .before .before .before .before .before .before .before .before .before .before .before .answer .result) (c .before .before .before .before .before .before .before .before .before .before .before .before .before .before .before .before .before .before .pre .0) (c .before .before .before .before .before .before .before .before .before .before .before .before .before .record-of .ensures) (c .before .before .before .before .push-answer .ensures) (c .before .before .before .before .before .before .before .before .before .before .before .before .before .before .before .before .before .before .pre .1)
 
 same-length : tie.Need-same-length
 same-length c = search needs
 
 returns : tie.Need-returns
-returns c = ?
+unfolding noRow
+returns c = answer-out (c .before .before .before .before .before .before .before .before .before .before .before .before .before .before .before .before .before .record-of .ensures) (answer-same _ (c .before .before .before .before .before .before .before .before .before .before .before .before .before .before .before .before .before .record-of .ensures) (c .before .before .before .before .before .before .before .before .before .before .before .before .before .before .before .before .open-rows .ensures) (c .before .before .before .before .before .before .before .before .before .before .before .before .before .before .before .answer .ensures)) (c .before .before .before .before .before .before .before .before .push-answer .ensures) (c .before .before .before .finish .ensures .0) (c .before .before .before .finish .ensures .1)
 
 pub reply-spec : {M : Type 1} → statement M
 reply-spec =
