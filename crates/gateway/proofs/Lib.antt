@@ -6,3 +6,4 @@ pub mod KeepLaws
 pub mod MeterLaws
 pub mod CallsLaws
 pub mod TickLaws
+pub mod SaidLaws
