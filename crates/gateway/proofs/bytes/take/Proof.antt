@@ -1,5 +1,9 @@
 -- `bytes::take` meets its contract.
 -- Assumes nothing.
+use native.Mathlib.Omega.{arith}
+use Rattle.model.specs.Move.{noRow}
+use Rattle.model.specs.Table.{assemblingSize}
+use Rattle.gateway.proofs.HeardLaws.{first-is, row-few, only-long, room-within, heard-room, heard-out}
 use borrow.Author.Needs.{needs}
 use Rattle.gateway.proofs.bytes.take.Statement.{statement}
 use Rattle.gateway.proofs.bytes.take.Tie as tie
@@ -27,13 +31,16 @@ wide-requires : tie.Need-wide-requires
 wide-requires c κs = search needs
 
 add-a : tie.Need-add-a
-add-a c = ?
+add-a c = let s = c .before .before .before .before .before .before .before .before .before .before .before .before .before .before .before .before .before .before .before .before .before .before in
+    omega (arith, row-few (s .pre .0) (s .pre .1) (first-is (c .before .before .before .before .before .before .before .before .before .before .before .before .before .before .before .before .site-of .ensures) (c .wide .ensures)))
 
 mul-a : tie.Need-mul-a
-mul-a c = ?
+mul-a c = let s = c .before .before .before .before .before .before .before .before .before .before .before .before .before .before .before .before .before .before .before .before .before .before in
+    omega (arith, row-few (s .pre .0) (s .pre .1) (first-is (c .before .before .before .before .before .before .before .before .before .before .before .before .before .before .before .before .site-of .ensures) (c .wide .ensures)))
 
 add-e : tie.Need-add-e
-add-e c = ?
+add-e c = let s = c .before .before .before .before .before .before .before .before .before .before .before .before .before .before .before .before .before .before .before .before .before .before .before in
+    omega (arith, row-few (s .pre .0) (s .pre .1) (first-is (c .before .before .before .before .before .before .before .before .before .before .before .before .before .before .before .before .before .site-of .ensures) (c .before .wide .ensures)), c .before .before .before .before .before .before .before .before .bytes-at .ensures .did .short)
 
 sub-finish : tie.Need-sub-finish
 sub-finish c = search needs
@@ -42,10 +49,14 @@ part-finish-start : tie.Need-part-finish-start
 part-finish-start c = search needs
 
 part-finish-end : tie.Need-part-finish-end
-part-finish-end c = ?
+unfolding assemblingSize
+part-finish-end c = let s = c .before .before .before .before .before .before .before .before .before .before .before .before .before .before .before .before .before .before .before .before .before .before .before .before .before .before in
+    let x = c .before .before .before .before .before .before .before .before .before .before .before .bytes-at .ensures in
+    omega (arith, row-few (s .pre .0) (s .pre .1) (first-is (c .before .before .before .before .before .before .before .before .before .before .before .before .before .before .before .before .before .before .before .before .site-of .ensures) (c .before .before .before .before .wide .ensures)), x .did .short, s .pre .3, only-long (x .onlyRoom) (room-within (s .pre .0) (s .pre .1) (s .args .m .now) (s .pre .3)))
 
 finish-requires : tie.Need-finish-requires
-finish-requires c κs = ?
+finish-requires c κs = let s = c .before .before .before .before .before .before .before .before .before .before .before .before .before .before .before .before .before .before .before .before .before .before .before .before .before .before .before in
+    heard-room (c .before .before .before .before .before .before .before .before .before .before .before .before .bytes-at .ensures) (c .before .before .before .before .before .before .before .before .before .before .before .before .before .before .before .before .before .before .empty .ensures) (s .pre .0) _ _ (s .pre .4)
 
 same-length : tie.Need-same-length
 same-length c = search needs
@@ -57,7 +68,9 @@ same-length-3 : tie.Need-same-length-3
 same-length-3 c = search needs
 
 returns : tie.Need-returns
-returns c = ?
+unfolding noRow
+returns c = let s = c .before .before .before .before .before .before .before .before .before .before .before .before .before .before .before .before .before .before .before .before .before .before .before .before .before .before .before .before .before .before .before in
+    heard-out (c .before .before .before .before .before .before .before .before .before .before .before .before .before .before .before .before .bytes-at .ensures) (c .before .before .before .before .before .before .before .before .before .before .before .before .before .before .before .before .before .before .before .before .before .before .empty .ensures) (s .pre .0) (first-is (c .before .before .before .before .before .before .before .before .before .before .before .before .before .before .before .before .before .before .before .before .before .before .before .before .before .site-of .ensures) (c .before .before .before .before .before .before .before .before .before .wide .ensures)) (c .before .before .before .finish .ensures .0) (c .before .before .before .finish .ensures .1)
 
 pub take-spec : {M : Type 1} → statement M
 take-spec =
