@@ -7,3 +7,5 @@ pub mod MeterLaws
 pub mod CallsLaws
 pub mod TickLaws
 pub mod SaidLaws
+pub mod HeardLaws
+pub mod BytesLaws
