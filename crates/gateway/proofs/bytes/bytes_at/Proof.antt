@@ -1,6 +1,6 @@
 -- `bytes::bytes_at` meets its contract.
 -- Assumes nothing.
-use Prim.Native.Nat.{ℕ, _<_}
+use Prim.Native.Nat.{ℕ}
 use mathlib.Core.Path.{_≡_, sym, subst}
 use mathlib.Core.Bool.{false}
 use mathlib.Core.List.{List}
@@ -18,10 +18,6 @@ use Rattle.gateway.proofs.HeardLaws.{first-is, row-few, seat-few, lent-
 use borrow.Author.Needs.{needs}
 use Rattle.gateway.proofs.bytes.bytes_at.Statement.{statement}
 use Rattle.gateway.proofs.bytes.bytes_at.Tie as tie
-use Rattle.gateway.proofs.bytes.bytes_at.Reads as reads
-use Rattle.gateway.proofs.bytes.bytes_at.Lts as lts
-use Rattle.farm.proofs.bytes.bytes.Reads as bytes-reads
-use Rattle.octets.proofs.wide.Reads as wide-reads
 
 cast-a : tie.Need-cast-a
 cast-a c = search needs
