@@ -62,14 +62,15 @@ part-bytes-end-2 c = let s = c .before .before .before .before .before .before .
 
 bytes-requires : tie.Need-bytes-requires
 bytes-requires c κs = let s = c .before .before .before .before .before .before .before .before .before .before in
-    let back : block (s .args .t .now) (s .args .f .0) ≡ lentBlock (s .args .t .now) (s .args .f .0) = sym (lent-is (s .args .t .now) (s .args .f .0)) in
-    (seat-few (s .pre .0) (s .pre .2),
-    lent-full (s .args .m .now) _ (row-few (s .pre .0) (s .pre .2) (first-is (s .pre .1) (c .before .before .before .wide .ensures))) (s .pre .4),
-    s .pre .1,
-    subst (λ (b : List ℕ). Good (farmSheet (s .args .s .now) (s .args .f .0)) (farmOf b)) back (s .pre .0 .good),
-    subst (λ (b : List ℕ). isWaiting (rowAt (farmOf b .rows) (s .args .seat)) ≡ false) back (s .pre .3),
-    subst Whole back (s .pre .0 .whole),
-    s .pre .5)
+    let back : block (s .args .t .now) (s .args .f .0) ≡ lentBlock (s .args .t .now) (s .args .f .0) = sym (lent-is (s .args .t .now) (s .args .f .0)) in (
+      seat-few (s .pre .0) (s .pre .2),
+      lent-full (s .args .m .now) _ (row-few (s .pre .0) (s .pre .2) (first-is (s .pre .1) (c .before .before .before .wide .ensures))) (s .pre .4),
+      s .pre .1,
+      subst (λ (b : List ℕ). Good (farmSheet (s .args .s .now) (s .args .f .0)) (farmOf b)) back (s .pre .0 .good),
+      subst (λ (b : List ℕ). isWaiting (rowAt (farmOf b .rows) (s .args .seat)) ≡ false) back (s .pre .3),
+      subst Whole back (s .pre .0 .whole),
+      s .pre .5,
+    )
 
 same-length : tie.Need-same-length
 same-length c = search needs
