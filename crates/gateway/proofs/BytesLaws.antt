@@ -33,11 +33,11 @@ use Rattle.lent.specs.Served.{memory, Served}
 use Rattle.lent.proofs.LentLaws.{slot-farm, room-put}
 use Rattle.lent.proofs.MoveLaws.{moved-long, moved-means, moved-whole}
 use Rattle.lent.proofs.ServedLaws.{Left, served-did}
-use Rattle.gateway.specs.Ready.{Ready}
-use Rattle.gateway.specs.Heard.{roomAt, room, heardTaken, heardDone, OnlyRoom, HeardOut}
-use Rattle.gateway.proofs.HeardLaws.{room-within, only-fits, only-long, only-full}
-use Rattle.gateway.proofs.MovedLaws.{ready-below}
-use Rattle.gateway.proofs.ServeLaws.{ready-of, row-goes}
+use Rattle.serve.specs.Ready.{Ready}
+use Rattle.serve.specs.Heard.{roomAt, room, heardTaken, heardDone, OnlyRoom, HeardOut}
+use Rattle.serve.proofs.HeardLaws.{room-within, only-fits, only-long, only-full}
+use Rattle.serve.proofs.MovedLaws.{ready-below}
+use Rattle.serve.proofs.ServeLaws.{ready-of, row-goes}
 
 -- ---- refusals 6 and 7
 

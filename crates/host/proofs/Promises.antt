@@ -153,7 +153,7 @@ module _ {s t m t' m' : List ℕ} (b : Began s t m) (b' : Began s t' m') where
   same-for-the-farm {ms} {ns} h h' g i e =
       ap (λ (y : Table). hasOf s g y ms) (began-fresh b)
       ∙ rules.same-for-the-farm s (began-lendable b .sheet) g i (rooms b) (rooms b') (slots b) (slots b') (shape g i) ms ns
-        (ap (λ (y : Table). callsOf s g y ms) (sym (began-fresh b)) ∙ e ∙ ap (λ (y : Table). callsOf s g y ns) (began-fresh b'))
+      (ap (λ (y : Table). callsOf s g y ms) (sym (began-fresh b)) ∙ e ∙ ap (λ (y : Table). callsOf s g y ns) (began-fresh b'))
       ∙ sym (ap (λ (y : Table). hasOf s g y ns) (began-fresh b'))
     where
       slots : {x y : List ℕ} (z : Began s x y) → g < length (rooms z)

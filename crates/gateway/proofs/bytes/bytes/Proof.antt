@@ -16,9 +16,9 @@ use Rattle.table.specs.Layout.{tableSize}
 use Rattle.lent.specs.Gate.{Passed}
 use Rattle.lent.proofs.GateLaws.{gate-passes}
 use Rattle.lent.proofs.CallLaws.{refused-as, gate-served}
-use Rattle.gateway.specs.Ready.{Ready}
-use Rattle.gateway.proofs.MovedLaws.{ready-below}
-use Rattle.gateway.proofs.ServeLaws.{ready-of, row-unknown}
+use Rattle.serve.specs.Ready.{Ready}
+use Rattle.serve.proofs.MovedLaws.{ready-below}
+use Rattle.serve.proofs.ServeLaws.{ready-of, row-unknown}
 use Rattle.gateway.proofs.BytesLaws.{bytes-closed, bytes-waits, bytes-served}
 use borrow.Author.Needs.{needs}
 use Rattle.gateway.proofs.bytes.bytes.Statement.{statement}

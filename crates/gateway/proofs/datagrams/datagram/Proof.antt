@@ -7,8 +7,8 @@ use Rattle.sheet.proofs.LengthLaws.{good-lengths}
 use Rattle.model.specs.Move.{datagram}
 use Rattle.model.specs.Table.{datagramTo, leastOutput, whose}
 use Rattle.lent.proofs.CallLaws.{refused-as, gate-served}
-use Rattle.gateway.proofs.ServeLaws.{ready-of, farm-unknown}
-use Rattle.gateway.proofs.SaidLaws.{went-on, datagram-served}
+use Rattle.serve.proofs.ServeLaws.{ready-of, farm-unknown}
+use Rattle.serve.proofs.SaidLaws.{went-on, datagram-served}
 use borrow.Author.Needs.{needs}
 use Rattle.gateway.proofs.datagrams.datagram.Statement.{statement}
 use Rattle.gateway.proofs.datagrams.datagram.Tie as tie

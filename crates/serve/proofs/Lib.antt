@@ -1,0 +1,7 @@
+pub mod AnswerLaws
+pub mod BlockLaws
+pub mod MovedLaws
+pub mod ServeLaws
+pub mod TickLaws
+pub mod SaidLaws
+pub mod HeardLaws

@@ -1,0 +1,4 @@
+pub mod Ready
+pub mod Moved
+pub mod Ticked
+pub mod Heard
