@@ -5,3 +5,7 @@ pub mod ServeLaws
 pub mod KeepLaws
 pub mod MeterLaws
 pub mod CallsLaws
+pub mod TickLaws
+pub mod SaidLaws
+pub mod HeardLaws
+pub mod BytesLaws

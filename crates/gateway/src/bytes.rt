@@ -1,0 +1,103 @@
+// "bytes from a row".
+ghost use mathlib.Core.Path.{_≡_};
+ghost use mathlib.Core.Bool.{false};
+ghost use Prim.Native.Nat.{_<_, _≤_};
+ghost use lib.ListN.{length};
+ghost use Rattle.sheet.specs.Rows.{rowsOwned};
+ghost use Rattle.model.specs.Row.{rowAt, isWaiting};
+ghost use Rattle.model.specs.Table.{assemblingSize, bytesFrom};
+ghost use Rattle.outsheet.specs.Plan.{PlanOk};
+ghost use Rattle.outsheet.specs.Contracts.{leastOutput};
+ghost use Rattle.table.specs.Block.{farmOf};
+ghost use Rattle.site.specs.Site.{Sited};
+ghost use Rattle.lent.specs.Lent.{block, lentStep};
+ghost use Rattle.lent.specs.Served.{memory, Served};
+ghost use Rattle.gateway.specs.Ready.{Ready};
+ghost use Rattle.gateway.specs.Heard.{HeardAt, HeardOut};
+use crate::answer;
+use crate::at;
+use crate::gate;
+use farm::bytes::Heard;
+use kinds::FarmNo;
+use kinds::RowNo;
+use kinds::Site;
+use lent::Answer;
+use outsheet::plan;
+use outsheet::plan::PLAN;
+use sheet::rows;
+use table::BLOCK;
+use table::TABLE;
+
+// "2,048 for each of 16 rows"
+const ROOM: usize = 2048;
+
+// The farm's block and the row's room are lent alone.
+fn bytes_at(
+    t: &mut [u8],
+    p: &mut [u8],
+    m: &mut [u8],
+    s: &[u8],
+    f: FarmNo,
+    site: Site,
+    seat: usize,
+    input: &[u8],
+) -> Heard
+    requires { ⌜ Ready (now s) (now t) (f .0) × Sited (now s) (f .0) site × (seat < rowsOwned (now s) (f .0)) × (isWaiting (rowAt (farmOf (block (now t) (f .0)) .rows) seat) ≡ false) × (length (now m) ≡ assemblingSize) × PlanOk (now p) ⌝ }
+    ensures { λ r. ⌜ HeardAt (now (s .entry)) (f .0) seat (now (input .entry)) (now (p .entry)) (now (t .entry)) (now (m .entry)) (now (p .exit)) (now (t .exit)) (now (m .exit)) r ⌝ }
+{
+    let a = (f.0 as usize) * BLOCK;
+    let e = a + BLOCK;
+    let c = (octets::wide(site.first) + seat) * ROOM;
+    let d = c + ROOM;
+    farm::bytes::bytes(&mut t[a..e], p, &mut m[c..d], s, f, site, seat, input)
+}
+
+fn take(
+    s: &[u8],
+    t: &mut [u8],
+    out: &mut [u8],
+    m: &mut [u8],
+    f: FarmNo,
+    seat: usize,
+    input: &[u8],
+) -> Answer
+    requires { ⌜ Ready (now s) (now t) (f .0) × (seat < rowsOwned (now s) (f .0)) × (isWaiting (rowAt (farmOf (block (now t) (f .0)) .rows) seat) ≡ false) × (length (now m) ≡ assemblingSize) × (leastOutput ≤ length (now out)) ⌝ }
+    ensures { λ r. ⌜ HeardOut (now (s .entry)) (f .0) seat (now (input .entry)) (now (t .entry)) (now (out .entry)) (now (m .entry)) (now (t .exit)) (now (out .exit)) (now (m .exit)) r ⌝ }
+{
+    let site = site::site_of(s, f);
+    let mut space = [0; PLAN];
+    let p: &mut [u8] = &mut space;
+    plan::empty(p);
+    let heard = bytes_at(t, p, m, s, f, site, seat, input);
+    let a = (octets::wide(site.first) + seat) * ROOM;
+    let e = a + heard.long;
+    answer::finish(out, p, &m[a..e], answer::NO_ROW, heard.count)
+}
+
+pub fn bytes(
+    s: &[u8],
+    t: &mut [u8; TABLE],
+    out: &mut [u8],
+    m: &mut [u8],
+    row: RowNo,
+    input: &[u8],
+) -> Answer
+    ensures { λ r. ⌜ Served (now (s .entry)) (lentStep (now (s .entry)) (now (t .entry)) (now (out .entry)) (now (m .entry)) (bytesFrom (row .0) (now (input .entry)))) r (memory (now (t .entry)) (now (out .entry)) (now (m .entry))) (memory (now (t .exit)) (now (out .exit)) (now (m .exit))) ⌝ }
+{
+    let n = gate::refusal(s, t, out, m);
+    if 0 < n {
+        return answer::refused(n);
+    }
+    let owner = rows::owner_of(s, row);
+    let rows::Owner::Seat(f, k) = owner else {
+        return answer::refused(6);
+    };
+    let seat = octets::wide(k);
+    if !at::is_open(t, f, seat) {
+        return answer::refused(6);
+    }
+    if at::is_waiting(t, f, seat) {
+        return answer::refused(7);
+    }
+    take(s, t, out, m, f, seat, input)
+}
