@@ -30,7 +30,7 @@ use Rattle.lent.specs.declared.Answer.{Answer}
 use Rattle.lent.specs.Lent.{block, Only, roomSize, roomsOf, heldAt, lentTable, lentStep}
 use Rattle.lent.specs.Gate.{Passed}
 use Rattle.lent.specs.Served.{memory, Served}
-use Rattle.lent.proofs.LentLaws.{slot-farm, slot-is, room-put}
+use Rattle.lent.proofs.LentLaws.{slot-farm, room-put}
 use Rattle.lent.proofs.MoveLaws.{moved-long, moved-means, moved-whole}
 use Rattle.lent.proofs.ServedLaws.{Left, served-did}
 use Rattle.gateway.specs.Ready.{Ready}

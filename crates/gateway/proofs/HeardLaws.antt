@@ -10,7 +10,6 @@ use Rattle.octets.specs.Parts.{part}
 use Rattle.octets.specs.Put.{putAt}
 use Rattle.octets.proofs.PartsLaws.{part-same, part-between, mid-put, length-part, part-short}
 use Rattle.octets.proofs.PutLaws.{length-putAt}
-use Rattle.kinds.specs.declared.Item.{Item}
 use Rattle.kinds.specs.declared.Site.{Site}
 use Rattle.sheet.specs.Sheet.{mostRows}
 use Rattle.sheet.specs.Rows.{firstRow, rowsOwned}
@@ -18,10 +17,10 @@ use Rattle.sheet.proofs.RowsLaws.{rows-within, rows-few, owned-few}
 use Rattle.outsheet.specs.Sheet.{sheetOf}
 use Rattle.outsheet.specs.Replies.{entriesOf}
 use Rattle.outsheet.specs.Plan.{itemsOf, Said}
-use Rattle.outsheet.specs.Contracts.{leastOutput, longest, Room, Wrote}
+use Rattle.outsheet.specs.Contracts.{leastOutput, Room, Wrote}
 use Rattle.model.specs.FarmSheet.{farmSheet}
 use Rattle.model.specs.Stream.{Taken}
-use Rattle.model.specs.Bytes.{takenBy, payloadBy, bytesDone}
+use Rattle.model.specs.Bytes.{takenBy, payloadBy}
 use Rattle.model.specs.Move.{noRow}
 use Rattle.model.specs.Table.{assemblingSize}
 use Rattle.model.proofs.RuleKept.{farm-ok}

@@ -23,15 +23,6 @@ use Rattle.gateway.proofs.BytesLaws.{bytes-closed, bytes-waits, bytes-s
 use borrow.Author.Needs.{needs}
 use Rattle.gateway.proofs.bytes.bytes.Statement.{statement}
 use Rattle.gateway.proofs.bytes.bytes.Tie as tie
-use Rattle.gateway.proofs.bytes.bytes.Reads as reads
-use Rattle.gateway.proofs.bytes.bytes.Lts as lts
-use Rattle.gateway.proofs.answer.refused.Reads as refused-reads
-use Rattle.gateway.proofs.at.is_open.Reads as is-open-reads
-use Rattle.gateway.proofs.at.is_waiting.Reads as is-waiting-reads
-use Rattle.gateway.proofs.bytes.take.Reads as take-reads
-use Rattle.gateway.proofs.gate.refusal.Reads as refusal-reads
-use Rattle.octets.proofs.wide.Reads as wide-reads
-use Rattle.sheet.proofs.rows.owner_of.Reads as owner-of-reads
 
 -- refusals 1 to 4 are past
 passed : (c : tie.Else1) → Passed (now (c .before .before .before .before .before .before .before .before .before .before .args .s)) (now (c .before .before .before .before .before .before .before .before .before .before .args .t)) (now (c .before .before .before .before .before .before .before .before .before .before .args .out)) (now (c .before .before .before .before .before .before .before .before .before .before .args .m))

@@ -1,6 +1,6 @@
 -- `bytes::bytes_at` meets its contract.
 -- Assumes nothing.
-use Prim.Native.Nat.{ℕ, _<_}
+use Prim.Native.Nat.{ℕ}
 use mathlib.Core.Path.{_≡_, sym, subst}
 use mathlib.Core.Bool.{false}
 use mathlib.Core.List.{List}
@@ -18,10 +18,6 @@ use Rattle.gateway.proofs.HeardLaws.{first-is, row-few, seat-few, lent-
 use borrow.Author.Needs.{needs}
 use Rattle.gateway.proofs.bytes.bytes_at.Statement.{statement}
 use Rattle.gateway.proofs.bytes.bytes_at.Tie as tie
-use Rattle.gateway.proofs.bytes.bytes_at.Reads as reads
-use Rattle.gateway.proofs.bytes.bytes_at.Lts as lts
-use Rattle.farm.proofs.bytes.bytes.Reads as bytes-reads
-use Rattle.octets.proofs.wide.Reads as wide-reads
 
 cast-a : tie.Need-cast-a
 cast-a c = search needs
@@ -66,14 +62,15 @@ part-bytes-end-2 c = let s = c .before .before .before .before .before .before .
 
 bytes-requires : tie.Need-bytes-requires
 bytes-requires c κs = let s = c .before .before .before .before .before .before .before .before .before .before in
-    let back : block (s .args .t .now) (s .args .f .0) ≡ lentBlock (s .args .t .now) (s .args .f .0) = sym (lent-is (s .args .t .now) (s .args .f .0)) in
-    (seat-few (s .pre .0) (s .pre .2),
-    lent-full (s .args .m .now) _ (row-few (s .pre .0) (s .pre .2) (first-is (s .pre .1) (c .before .before .before .wide .ensures))) (s .pre .4),
-    s .pre .1,
-    subst (λ (b : List ℕ). Good (farmSheet (s .args .s .now) (s .args .f .0)) (farmOf b)) back (s .pre .0 .good),
-    subst (λ (b : List ℕ). isWaiting (rowAt (farmOf b .rows) (s .args .seat)) ≡ false) back (s .pre .3),
-    subst Whole back (s .pre .0 .whole),
-    s .pre .5)
+    let back : block (s .args .t .now) (s .args .f .0) ≡ lentBlock (s .args .t .now) (s .args .f .0) = sym (lent-is (s .args .t .now) (s .args .f .0)) in (
+      seat-few (s .pre .0) (s .pre .2),
+      lent-full (s .args .m .now) _ (row-few (s .pre .0) (s .pre .2) (first-is (s .pre .1) (c .before .before .before .wide .ensures))) (s .pre .4),
+      s .pre .1,
+      subst (λ (b : List ℕ). Good (farmSheet (s .args .s .now) (s .args .f .0)) (farmOf b)) back (s .pre .0 .good),
+      subst (λ (b : List ℕ). isWaiting (rowAt (farmOf b .rows) (s .args .seat)) ≡ false) back (s .pre .3),
+      subst Whole back (s .pre .0 .whole),
+      s .pre .5,
+    )
 
 same-length : tie.Need-same-length
 same-length c = search needs

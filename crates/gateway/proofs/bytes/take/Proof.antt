@@ -7,13 +7,6 @@ use Rattle.gateway.proofs.HeardLaws.{first-is, row-few, only-long, room
 use borrow.Author.Needs.{needs}
 use Rattle.gateway.proofs.bytes.take.Statement.{statement}
 use Rattle.gateway.proofs.bytes.take.Tie as tie
-use Rattle.gateway.proofs.bytes.take.Reads as reads
-use Rattle.gateway.proofs.bytes.take.Lts as lts
-use Rattle.gateway.proofs.answer.finish.Reads as finish-reads
-use Rattle.gateway.proofs.bytes.bytes_at.Reads as bytes-at-reads
-use Rattle.octets.proofs.wide.Reads as wide-reads
-use Rattle.outsheet.proofs.plan.empty.Reads as empty-reads
-use Rattle.site.proofs.site_of.Reads as site-of-reads
 
 site-of-requires : tie.Need-site-of-requires
 site-of-requires c κs = search needs
