@@ -34,8 +34,8 @@ use Rattle.lent.proofs.LentLaws.{slot-farm, room-put}
 use Rattle.lent.proofs.MoveLaws.{moved-long, moved-means, moved-whole}
 use Rattle.lent.proofs.ServedLaws.{Left, served-did}
 use Rattle.serve.specs.Ready.{Ready}
-use Rattle.serve.specs.Heard.{roomAt, room, heardTaken, heardDone, OnlyRoom, HeardOut}
-use Rattle.serve.proofs.HeardLaws.{room-within, only-fits, only-long, only-full}
+use Rattle.serve_bytes.specs.Heard.{roomAt, room, heardTaken, heardDone, OnlyRoom, HeardOut}
+use Rattle.serve_bytes.proofs.HeardLaws.{room-within, only-fits, only-long, only-full}
 use Rattle.serve.proofs.MovedLaws.{ready-below}
 use Rattle.serve.proofs.ServeLaws.{ready-of, row-goes}
 

@@ -36,5 +36,5 @@ pub fn bytes(
     if at::is_waiting(t, f, seat) {
         return answer::refused(7);
     }
-    serve::bytes::take(s, t, out, m, f, seat, input)
+    serve_bytes::take(s, t, out, m, f, seat, input)
 }

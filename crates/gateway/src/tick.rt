@@ -14,5 +14,5 @@ pub fn tick(s: &[u8], t: &mut [u8; TABLE], out: &mut [u8], m: &[u8]) -> Answer
     if 0 < n {
         return answer::refused(n);
     }
-    serve::tick::tick_all(s, t, out)
+    serve_tick::tick_all(s, t, out)
 }

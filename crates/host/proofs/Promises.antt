@@ -32,7 +32,7 @@ use Rattle.model.proofs.Neighbour.{SameShape}
 use Rattle.model.proofs.Promises as rules
 use Rattle.table.specs.Block.{farmOf}
 use Rattle.lent.specs.declared.Answer.{Answer}
-use Rattle.lent.specs.Lent.{block, heldAt, lentTable, lentStep}
+use Rattle.lent.specs.Lent.{block, heldAt, lentTable, lentStep, lentStart}
 use Rattle.lent.specs.Served.{Memory, memory, Served}
 use Rattle.lent.proofs.LentLaws.{slot-is}
 use Rattle.lent.proofs.ServedLaws.{served-once}
@@ -44,6 +44,9 @@ use Rattle.host.proofs.RoomLaws.{rooms-slots, rooms-count, room-long, r
 
 pub call-settled : (s : List ℕ) (c : Call) (a b : Answer) (before x y : Memory) → CallServed s c a before x → CallServed s c b before y → (a ≡ b) × (x ≡ y)
 call-settled s c a b before x y = served-once s (lentStep s (before .table) (before .output) (before .assembling) c) a b before x y
+
+pub start-settled : (s : List ℕ) (a b : Answer) (before x y : Memory) → StartServed s a before x → StartServed s b before y → (a ≡ b) × (x ≡ y)
+start-settled s a b before x y = served-once s (lentStart s (before .table) (before .output) (before .assembling)) a b before x y
 
 -- ---- the farm that a block means is the slot of the model's table
 

@@ -2,6 +2,4 @@ pub mod AnswerLaws
 pub mod BlockLaws
 pub mod MovedLaws
 pub mod ServeLaws
-pub mod TickLaws
 pub mod SaidLaws
-pub mod HeardLaws

@@ -2,9 +2,7 @@
 // the output sheet is written from its entries.
 pub mod answer; // answer.rt: a refusal, and the output sheet of a call that is done
 pub mod at; // at.rt: what is asked of a farm's block
-pub mod bytes; // bytes.rt: bytes from a row
 pub mod closed; // closed.rt: peer closed, link lost
 pub mod connect; // connect.rt: connect
 pub mod controller; // controller.rt: message from a controller
 pub mod datagrams; // datagrams.rt: datagram
-pub mod tick; // tick.rt: tick

@@ -6,7 +6,7 @@ use Rattle.model.specs.Table.{leastOutput, tick}
 use Rattle.lent.proofs.GateLaws.{gate-passes}
 use Rattle.lent.proofs.CallLaws.{gate-served}
 use Rattle.serve.proofs.ServeLaws.{all-ready}
-use Rattle.serve.proofs.TickLaws.{tick-served}
+use Rattle.serve_tick.proofs.TickLaws.{tick-served}
 use borrow.Author.Needs.{needs}
 use Rattle.gateway.proofs.tick.tick.Statement.{statement}
 use Rattle.gateway.proofs.tick.tick.Tie as tie
@@ -14,7 +14,7 @@ use Rattle.gateway.proofs.tick.tick.Reads as reads
 use Rattle.gateway.proofs.tick.tick.Lts as lts
 use Rattle.serve.proofs.answer.refused.Reads as refused-reads
 use Rattle.gateway.proofs.gate.refusal.Reads as refusal-reads
-use Rattle.serve.proofs.tick.tick_all.Reads as tick-all-reads
+use Rattle.serve_tick.proofs.tick_all.Reads as tick-all-reads
 
 refusal-requires : tie.Need-refusal-requires
 refusal-requires c κs = search needs

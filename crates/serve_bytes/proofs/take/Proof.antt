@@ -1,12 +1,12 @@
--- `bytes::take` meets its contract.
+-- `take` meets its contract.
 -- Assumes nothing.
 use native.Mathlib.Omega.{arith}
 use Rattle.model.specs.Move.{noRow}
 use Rattle.model.specs.Table.{assemblingSize}
-use Rattle.serve.proofs.HeardLaws.{first-is, row-few, only-long, room-within, heard-room, heard-out}
+use Rattle.serve_bytes.proofs.HeardLaws.{first-is, row-few, only-long, room-within, heard-room, heard-out}
 use borrow.Author.Needs.{needs}
-use Rattle.serve.proofs.bytes.take.Statement.{statement}
-use Rattle.serve.proofs.bytes.take.Tie as tie
+use Rattle.serve_bytes.proofs.take.Statement.{statement}
+use Rattle.serve_bytes.proofs.take.Tie as tie
 
 site-of-requires : tie.Need-site-of-requires
 site-of-requires c κs = search needs

@@ -1,4 +1,4 @@
--- `tick::tick_farms` meets its contract.
+-- `tick_farms` meets its contract.
 -- Assumes nothing.
 use Prim.Native.Nat.{_-_, _≤_}
 use mathlib.Core.Path.{_∙_, sym}
@@ -6,14 +6,14 @@ use native.Mathlib.Omega.{arith}
 use Rattle.sheet.proofs.LengthLaws.{good-lengths}
 use Rattle.site.proofs.SiteLaws.{sited-fit}
 use Rattle.farm.proofs.BytesLaws.{good-seated}
-use Rattle.serve.specs.Ticked.{TickedTo}
+use Rattle.serve_tick.specs.Ticked.{TickedTo}
 use Rattle.serve.proofs.MovedLaws.{ready-below}
-use Rattle.serve.proofs.TickLaws.{ready-still, ticked-none, ticked-more, ticked-all}
-use Rattle.serve.proofs.tick.tick_farms.Statement.{statement}
-use Rattle.serve.proofs.tick.tick_farms.Tie as tie
-use Rattle.serve.proofs.tick.tick_farms.Reads as reads
-use Rattle.serve.proofs.tick.tick_farms.Lts as lts
-use Rattle.serve.proofs.tick.tick_at.Reads as tick-at-reads
+use Rattle.serve_tick.proofs.TickLaws.{ready-still, ticked-none, ticked-more, ticked-all}
+use Rattle.serve_tick.proofs.tick_farms.Statement.{statement}
+use Rattle.serve_tick.proofs.tick_farms.Tie as tie
+use Rattle.serve_tick.proofs.tick_farms.Reads as reads
+use Rattle.serve_tick.proofs.tick_farms.Lts as lts
+use Rattle.serve_tick.proofs.tick_at.Reads as tick-at-reads
 use Rattle.sheet.proofs.head.farm_count.Reads as farm-count-reads
 use Rattle.site.proofs.site_of.Reads as site-of-reads
 

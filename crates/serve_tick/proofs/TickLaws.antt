@@ -42,11 +42,11 @@ use Rattle.lent.proofs.BytesLaws.{Exact, whole-exact}
 use Rattle.lent.proofs.GateLaws.{goes-on}
 use Rattle.lent.proofs.MoveLaws.{moved-long}
 use Rattle.lent.proofs.ServedLaws.{served-did}
 use Rattle.serve.specs.Ready.{Ready, AllReady}
 use Rattle.serve.specs.Moved.{DidAt}
-use Rattle.serve.specs.Ticked.{farmTick, ticksTo, Farms, TickedTo, TickedOut}
+use Rattle.serve_tick.specs.Ticked.{farmTick, ticksTo, Farms, TickedTo, TickedOut}
 use Rattle.serve.proofs.AnswerLaws.{wrote-items}
 use Rattle.serve.proofs.MovedLaws.{at-same}
 
 -- ---- one farm after the other
 

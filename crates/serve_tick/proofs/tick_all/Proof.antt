@@ -1,17 +1,17 @@
--- `tick::tick_all` meets its contract.
+-- `tick_all` meets its contract.
 -- Assumes nothing.
 use mathlib.Core.List.{[]}
 use Rattle.model.specs.Move.{noRow}
 use Rattle.serve.proofs.AnswerLaws.{wrote-items}
 use Rattle.serve.proofs.MovedLaws.{small-room}
-use Rattle.serve.proofs.TickLaws.{ticks-small, ticked-items}
+use Rattle.serve_tick.proofs.TickLaws.{ticks-small, ticked-items}
 use borrow.Author.Needs.{needs}
-use Rattle.serve.proofs.tick.tick_all.Statement.{statement}
-use Rattle.serve.proofs.tick.tick_all.Tie as tie
-use Rattle.serve.proofs.tick.tick_all.Reads as reads
-use Rattle.serve.proofs.tick.tick_all.Lts as lts
+use Rattle.serve_tick.proofs.tick_all.Statement.{statement}
+use Rattle.serve_tick.proofs.tick_all.Tie as tie
+use Rattle.serve_tick.proofs.tick_all.Reads as reads
+use Rattle.serve_tick.proofs.tick_all.Lts as lts
 use Rattle.serve.proofs.answer.finish_short.Reads as finish-short-reads
-use Rattle.serve.proofs.tick.tick_farms.Reads as tick-farms-reads
+use Rattle.serve_tick.proofs.tick_farms.Reads as tick-farms-reads
 use Rattle.outsheet.proofs.plan.empty.Reads as empty-reads
 
 slice-aggregate-p : tie.Need-slice-aggregate-p

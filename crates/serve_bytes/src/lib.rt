@@ -11,15 +11,15 @@ ghost use Rattle.outsheet.specs.Contracts.{leastOutput};
 ghost use Rattle.table.specs.Block.{farmOf};
 ghost use Rattle.site.specs.Site.{Sited};
 ghost use Rattle.lent.specs.Lent.{block};
 ghost use Rattle.serve.specs.Ready.{Ready};
-ghost use Rattle.serve.specs.Heard.{HeardAt, HeardOut};
-use crate::answer;
+ghost use Rattle.serve_bytes.specs.Heard.{HeardAt, HeardOut};
 use farm::bytes::Heard;
 use kinds::FarmNo;
 use kinds::Site;
 use lent::Answer;
 use outsheet::plan;
 use outsheet::plan::PLAN;
+use serve::answer;
 use sheet::rows;
 use table::BLOCK;
 

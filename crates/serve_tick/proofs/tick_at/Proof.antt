@@ -1,4 +1,4 @@
--- `tick::tick_at` meets its contract.
+-- `tick_at` meets its contract.
 -- Assumes nothing.
 use mathlib.Core.Path.{sym, subst}
 use mathlib.Core.List.{List}
@@ -7,12 +7,12 @@ use Rattle.model.specs.Move.{ticked}
 use Rattle.outsheet.specs.Plan.{PlanOk}
 use Rattle.table.specs.Block.{farmOf, Whole}
 use Rattle.rowwork.specs.Did.{siteSheet, RowsFit, Seated}
 use Rattle.serve.proofs.BlockLaws.{lent-is, did-lent}
 use borrow.Author.Needs.{needs}
-use Rattle.serve.proofs.tick.tick_at.Statement.{statement}
-use Rattle.serve.proofs.tick.tick_at.Tie as tie
-use Rattle.serve.proofs.tick.tick_at.Reads as reads
-use Rattle.serve.proofs.tick.tick_at.Lts as lts
+use Rattle.serve_tick.proofs.tick_at.Statement.{statement}
+use Rattle.serve_tick.proofs.tick_at.Tie as tie
+use Rattle.serve_tick.proofs.tick_at.Reads as reads
+use Rattle.serve_tick.proofs.tick_at.Lts as lts
 use Rattle.farm.proofs.tick.tick.Reads as tick-reads
 
 mul-a : tie.Need-mul-a

@@ -1,4 +1,4 @@
--- `bytes::bytes_at` meets its contract.
+-- `bytes_at` meets its contract.
 -- Assumes nothing.
 use Prim.Native.Nat.{ℕ}
 use mathlib.Core.Path.{_≡_, sym, subst}
@@ -13,11 +13,11 @@ use Rattle.model.specs.Rule.{Good}
 use Rattle.model.specs.Table.{assemblingSize}
 use Rattle.table.specs.Block.{farmOf, Whole}
 use Rattle.lent.specs.Lent.{block}
 use Rattle.serve.proofs.BlockLaws.{lentBlock, lent-is}
-use Rattle.serve.proofs.HeardLaws.{first-is, row-few, seat-few, lent-full, heard-lent}
+use Rattle.serve_bytes.proofs.HeardLaws.{first-is, row-few, seat-few, lent-full, heard-lent}
 use borrow.Author.Needs.{needs}
-use Rattle.serve.proofs.bytes.bytes_at.Statement.{statement}
-use Rattle.serve.proofs.bytes.bytes_at.Tie as tie
+use Rattle.serve_bytes.proofs.bytes_at.Statement.{statement}
+use Rattle.serve_bytes.proofs.bytes_at.Tie as tie
 
 cast-a : tie.Need-cast-a
 cast-a c = search needs
