@@ -41,7 +41,7 @@ fn next(day: &[u8], at: usize) -> Next<'_> {
 }
 
 /// "a kind byte, then its fields, and no byte more."
-fn read_record(kind: u8, fields: &[u8]) -> Option<Record<'_>> {
+pub fn read_record(kind: u8, fields: &[u8]) -> Option<Record<'_>> {
     let record = match (kind, fields) {
         (0, sheet) => Record::Sheet(sheet),
         (1, []) => Record::Call(Call::Start),

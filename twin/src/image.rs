@@ -46,7 +46,7 @@ impl Lent {
     }
 }
 
-fn table_bytes(table: &Table) -> [u8; TABLE] {
+pub fn table_bytes(table: &Table) -> [u8; TABLE] {
     let mut bytes = [0; TABLE];
     for (block, farm) in bytes.chunks_exact_mut(BLOCK).zip(&table.farms) {
         write_farm(block, farm);

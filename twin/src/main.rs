@@ -11,6 +11,8 @@ mod rule4;
 mod sheet;
 mod stream;
 mod table;
+#[cfg(test)]
+mod tests;
 mod wire;
 
 use std::io::{BufWriter, Write};
