@@ -4,6 +4,7 @@
 mod day;
 mod farm;
 mod gateway;
+mod gen;
 mod image;
 mod line;
 mod out;
@@ -22,11 +23,26 @@ fn main() -> ExitCode {
     let arguments: Vec<String> = std::env::args().skip(1).collect();
     let arguments: Vec<&str> = arguments.iter().map(String::as_str).collect();
     match arguments[..] {
+        ["gen", seed, records] => match (seed.parse(), records.parse()) {
+            (Ok(seed), Ok(records)) => write(&gen::day(seed, records)),
+            _ => usage(),
+        },
         [file] => replay(file),
-        _ => {
-            eprintln!("twin FILE          play a recorded day");
-            ExitCode::from(2)
-        }
+        _ => usage(),
+    }
+}
+
+fn usage() -> ExitCode {
+    eprintln!("twin FILE             play a recorded day");
+    eprintln!("twin gen SEED N       write a random day of about N records to standard output");
+    ExitCode::from(2)
+}
+
+fn write(bytes: &[u8]) -> ExitCode {
+    let mut output = std::io::stdout().lock();
+    match output.write_all(bytes).and_then(|()| output.flush()) {
+        Ok(()) => ExitCode::SUCCESS,
+        Err(_) => ExitCode::FAILURE,
     }
 }
 
