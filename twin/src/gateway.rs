@@ -109,7 +109,13 @@ impl Rig {
 }
 
 /// A call that refusals 1 to 4 let pass.
-fn serve(sheet: &Sheet, table: &mut Table, rooms: &mut [u8], out: &mut Out, call: Call) -> Result<Answer, Refusal> {
+fn serve(
+    sheet: &Sheet,
+    table: &mut Table,
+    rooms: &mut [u8],
+    out: &mut Out,
+    call: Call,
+) -> Result<Answer, Refusal> {
     match call {
         Call::Start => {}
         Call::Connect(farm) => {
@@ -151,7 +157,12 @@ fn serve(sheet: &Sheet, table: &mut Table, rooms: &mut [u8], out: &mut Out, call
 }
 
 /// "farm number not in the sheet"
-fn at_work<'a>(sheet: &'a Sheet, table: &'a mut Table, out: &'a mut Out, farm: FarmNo) -> Result<Work<'a>, Refusal> {
+fn at_work<'a>(
+    sheet: &'a Sheet,
+    table: &'a mut Table,
+    out: &'a mut Out,
+    farm: FarmNo,
+) -> Result<Work<'a>, Refusal> {
     let site = sheet.site(farm).ok_or(Refusal::NoFarm)?;
     Ok(Work { site, farm: &mut table.farms[usize::from(farm.0)], out })
 }

@@ -131,7 +131,7 @@ impl Day {
     fn step(&mut self) {
         self.crowd ^= self.dice.percent(1);
         let left = self.wanted - self.written;
-        if left > 40_000 && self.dice.below(3_000) == 0 {
+        if left > 40_000 && self.dice.below(40_000) == 0 {
             let ticks = self.dice.between(29_999, 30_001);
             return self.ticks(ticks);
         }

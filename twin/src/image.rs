@@ -11,6 +11,7 @@ const ROWS_AT: usize = 33;
 const ROW: usize = 20;
 
 /// The table as it is lent: a table's values, or bytes that are the image of none.
+#[allow(clippy::large_enum_variant)] // there is only one of it
 pub enum Lent {
     Table(Table),
     NoTable([u8; TABLE]),

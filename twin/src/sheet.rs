@@ -138,7 +138,6 @@ impl Sheet {
         }
         None
     }
-
 }
 
 /// One farm of a sheet.

@@ -1,5 +1,6 @@
 //! The worked days of document 01, with the bytes that it gives, and what the tests share.
 
+mod random;
 mod readings;
 mod recorded;
 
