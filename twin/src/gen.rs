@@ -300,7 +300,11 @@ impl Day {
 
     /// A table that breaks a rule is put right again, or a new one is started.
     fn recover(&mut self, old: [u8; TABLE]) {
-        self.some_calls();
+        if self.dice.percent(60) {
+            self.some_calls();
+        }
+        let ticks = self.dice.between(1, 6);
+        self.ticks(ticks);
         if self.is_sound() {
             return;
         }

@@ -2,7 +2,7 @@
 
 use super::dice::Dice;
 use crate::image::{table_bytes, TABLE};
-use crate::table::{Farm, Place, Request, Row, State, Table, SEATS};
+use crate::table::{Farm, Place, Request, Row, State, Table, ALIVE_CHECK, GENERAL, INITIAL, SEATS};
 
 /// The bytes of a table that differs from this one in one thing, on one side of a rule or the other.
 pub fn at_an_edge(dice: &mut Dice, table: &Table, testers: &[u16]) -> [u8; TABLE] {
@@ -43,15 +43,17 @@ fn change(dice: &mut Dice, farm: &mut Farm, testers: &[u16]) {
     }
 }
 
+/// Clocks are set so that they reach their limits in one and the same tick, or stand at them already.
 fn near_a_limit(dice: &mut Dice, farm: &mut Farm, seat: usize) {
-    if !farm.line.is_empty() && dice.percent(50) {
-        farm.clock = dice.between(46, 50) as u16;
+    let left = dice.below(5) as u16;
+    if !farm.line.is_empty() && dice.percent(60) {
+        farm.clock = ALIVE_CHECK - left;
     }
     match &mut farm.rows[seat].state {
-        State::Fresh { age } => *age = dice.between(196, 200) as u16,
-        State::Active { idle, .. } => *idle = dice.between(29_996, 30_000) as u16,
-        State::Waiting(_) => farm.clock = dice.between(46, 50) as u16,
-        State::Free => farm.clock = dice.below(2) as u16,
+        State::Fresh { age } => *age = INITIAL - left,
+        State::Active { idle, .. } => *idle = GENERAL - left,
+        State::Waiting(_) => farm.clock = ALIVE_CHECK - left,
+        State::Free => farm.clock = left,
     }
 }
 
@@ -71,10 +73,15 @@ fn change_line(dice: &mut Dice, farm: &mut Farm, seat: usize) {
 /// The row at another place in its stream, possible or not.
 fn other_place(dice: &mut Dice, row: Row) -> Row {
     const TYPES: [u16; 7] = [0x0000, 0x0005, 0x0008, 0x8001, 0x8003, 0x0007, 0x4001];
-    let length = dice.pick(&[0, 1, 2, 7, 8, 11, 2_048, 2_049, 0xFFFF_FFFF]);
+    const LENGTHS: [u32; 9] = [0, 1, 2, 7, 8, 11, 2_048, 2_049, 0xFFFF_FFFF];
+    const RIGHT: [(u16, u32); 6] = [(0, 1), (5, 7), (5, 11), (8, 2), (0x8001, 5), (0x8001, 2_048)];
+    let (message_type, length) = match dice.percent(50) {
+        true => dice.pick(&RIGHT),
+        false => (dice.pick(&TYPES), dice.pick(&LENGTHS)),
+    };
     let mut header = [0; 8];
     header[..2].copy_from_slice(&[0x03, if dice.percent(90) { 0xFC } else { 0xFD }]);
-    header[2..4].copy_from_slice(&dice.pick(&TYPES).to_be_bytes());
+    header[2..4].copy_from_slice(&message_type.to_be_bytes());
     header[4..].copy_from_slice(&u32::to_be_bytes(length));
     let count = match dice.below(4) {
         0 => 0,

@@ -76,7 +76,7 @@ impl Sender<'_> {
         let ours = all.iter().filter(|tester| tester.farm == self.site.number);
         let ours: Vec<u16> = ours.map(|tester| tester.address).collect();
         let theirs: Vec<u16> = all.iter().map(|tester| tester.address).collect();
-        let found = match dice.weighted(if self.crowd { &[49, 50, 1, 0] } else { &[34, 55, 8, 3] }) {
+        let found = match dice.weighted(if self.crowd { &[35, 64, 1, 0] } else { &[34, 55, 8, 3] }) {
             0 => dice.one_of(&self.used()).or_else(|| dice.one_of(&ours)),
             1 => dice.one_of(&ours),
             2 => dice.one_of(&theirs),
@@ -160,7 +160,7 @@ fn dropped(dice: &mut Dice) -> Vec<u8> {
 fn wrong_header(dice: &mut Dice) -> Vec<u8> {
     const TCP: [u16; 6] = [0x0000, 0x0005, 0x0008, 0x8001, 0x8002, 0x8003];
     const STRANGE: [u16; 9] = [0x0001, 0x0002, 0x0004, 0x0006, 0x0007, 0x0007, 0x4001, 0x8000, 0xFFFF];
-    let short = [0, 0, 1, 2, 7, 30, 300].map(|length: u32| length);
+    const SHORT: [u32; 7] = [0, 0, 1, 2, 7, 30, 300];
     match dice.below(8) {
         // the pattern, with whatever behind it
         0 => {
@@ -174,7 +174,7 @@ fn wrong_header(dice: &mut Dice) -> Vec<u8> {
             let length = match dice.below(10) {
                 0 => dice.pick(&[2_048, 2_049, 5_000]),
                 1 => dice.pick(&[100_000, 0x7FFF_FFFF, 0xFFFF_FFFE, 0xFFFF_FFFF]),
-                _ => dice.pick(&short),
+                _ => dice.pick(&SHORT),
             };
             skipped(dice, kind, length)
         }
