@@ -4,7 +4,7 @@
 mod day;
 mod farm;
 mod gateway;
-mod gen;
+mod generator;
 mod image;
 mod line;
 mod out;
@@ -24,7 +24,7 @@ fn main() -> ExitCode {
     let arguments: Vec<&str> = arguments.iter().map(String::as_str).collect();
     match arguments[..] {
         ["gen", seed, records] => match (seed.parse(), records.parse()) {
-            (Ok(seed), Ok(records)) => write(&gen::day(seed, records)),
+            (Ok(seed), Ok(records)) => write(&generator::day(seed, records)),
             _ => usage(),
         },
         [file] => replay(file),

@@ -2,7 +2,7 @@
 
 use crate::day::{carry_out, read_record, Record};
 use crate::gateway::{Call, Rig};
-use crate::gen;
+use crate::generator;
 use crate::image::Lent;
 use crate::rule4::keeps_rules;
 use crate::table::Table;
@@ -42,7 +42,7 @@ fn sound(rig: &Rig) -> Option<&Table> {
 #[test]
 fn rules_and_meters_are_kept() {
     for seed in 100..130 {
-        let day = gen::day(seed, 1_000);
+        let day = generator::day(seed, 1_000);
         let mut rig = Rig::new();
         for record in records(&day) {
             let (before, meters) = (rig.table.bytes(), sound(&rig).map(differences));
@@ -63,7 +63,7 @@ fn rules_and_meters_are_kept() {
 #[test]
 fn cutting_changes_nothing() {
     for seed in 200..220 {
-        let day = gen::day(seed, 600);
+        let day = generator::day(seed, 600);
         let (mut whole, mut cut) = (Rig::new(), Rig::new());
         for record in records(&day) {
             let Some(answer) = carry_out(&mut whole, record) else {
@@ -92,6 +92,6 @@ fn cutting_changes_nothing() {
 
 #[test]
 fn a_seed_gives_one_day() {
-    assert_eq!(gen::day(5, 500), gen::day(5, 500));
-    assert_ne!(gen::day(5, 500), gen::day(6, 500));
+    assert_eq!(generator::day(5, 500), generator::day(5, 500));
+    assert_ne!(generator::day(5, 500), generator::day(6, 500));
 }

@@ -228,7 +228,7 @@ impl Day {
     fn skips_for_long(&self, row: u8) -> bool {
         let Some(sender) = self.at_row(row) else { return false };
         let row = &sender.farm.rows[sender.seat];
-        matches!(row.place, Place::Skipping(count) if row.length() - count > 10_000)
+        matches!(row.place, Place::Skipping(count) if row.length().saturating_sub(count) > 10_000)
     }
 
     fn datagram(&mut self) {

@@ -3,7 +3,7 @@
 use super::dice::Dice;
 use crate::line::{decide, Decision};
 use crate::sheet::{Seat, Site};
-use crate::table::{Farm, State};
+use crate::table::{Farm, Row, State};
 use crate::wire;
 
 pub fn message(pattern: [u8; 2], message_type: u16, length: u32, payload: &[u8]) -> Vec<u8> {
@@ -50,7 +50,10 @@ impl Sender<'_> {
 
     fn is_asked(&self) -> bool {
         let Some(&head) = self.farm.line.first() else { return false };
-        let State::Waiting(request) = self.farm.rows[head].state else { return false };
+        // a damaged line may name a seat that is not there
+        let Some(&Row { state: State::Waiting(request), .. }) = self.farm.rows.get(head) else {
+            return false;
+        };
         match decide(self.site, self.farm, head, request) {
             Decision::Check(check) => check.asks(self.farm, self.seat),
             Decision::Code(_) => false,
