@@ -12,6 +12,7 @@ use crate::image::{Lent, TABLE};
 use crate::rule4::keeps_rules;
 use crate::sheet::FarmNo;
 use crate::table::{Place, Table};
+use crate::wire;
 use dice::Dice;
 use messages::Sender;
 
@@ -141,6 +142,7 @@ impl Day {
             15..=18 => self.bad_sheet(),
             19..=22 => self.wrong_rooms(),
             23 => drop(self.put(1, &[])),
+            24..=26 => self.half_read(),
             _ => self.any_call(),
         }
     }
@@ -289,6 +291,23 @@ impl Day {
         }
     }
 
+    /// A payload of which the core did not see the beginning: what stands in the row's room counts
+    /// (decision A25), and a message that is dropped has left nothing there (A27).
+    fn half_read(&mut self) {
+        let speaking = self.speaking_rows();
+        let Some(row) = self.dice.one_of(&speaking) else { return };
+        let dropped = messages::message([0x03, 0xFC], wire::DIAGNOSTIC_ACK, 12, &[0x55; 12]);
+        self.put(3, &[&[row], &dropped[..]].concat());
+        let (count, length) = (self.dice.between(1, 11) as u32, 12);
+        let (Some(sender), Some(table)) = (self.at_row(row), self.table()) else { return };
+        let new = damages::half_read(table, usize::from(sender.site.number.0), sender.seat, count, length);
+        if let Some((place, bytes)) = damages::difference(&self.rig.table.bytes(), &new) {
+            self.damage(place, &bytes);
+            let rest = self.dice.bytes((length - count) as usize);
+            self.put(3, &[&[row], &rest[..]].concat());
+        }
+    }
+
     fn damaged(&mut self) {
         let old = self.rig.table.bytes();
         for _ in 0..self.dice.between(1, 2) {
@@ -302,6 +321,12 @@ impl Day {
     fn recover(&mut self, old: [u8; TABLE]) {
         if self.dice.percent(60) {
             self.some_calls();
+        }
+        if self.dice.percent(20) {
+            // a host that offers what it has, which is nothing
+            for row in self.speaking_rows() {
+                self.put(3, &[row]);
+            }
         }
         let ticks = self.dice.between(1, 6);
         self.ticks(ticks);

@@ -24,7 +24,9 @@ fn change(dice: &mut Dice, farm: &mut Farm, testers: &[u16]) {
         Some(seat) if dice.percent(95) => seat,
         _ => dice.below(SEATS),
     };
-    let tester = dice.one_of(testers).unwrap_or(0x0E00);
+    let active: Vec<u16> = farm.rows.iter().filter_map(Row::active).collect();
+    let some = if dice.percent(40) { dice.one_of(&active) } else { dice.one_of(testers) };
+    let tester = some.unwrap_or(0x0E00);
     match dice.below(12) {
         0..=3 => near_a_limit(dice, farm, seat),
         4 => farm.meters.taken = dice.pick(&[0, 0xFFFF_FFFF, 0xFFFF_FFF0]),
@@ -99,6 +101,16 @@ fn other_place(dice: &mut Dice, row: Row) -> Row {
         _ => Place::Skipping(count),
     };
     Row { state: row.state, place, header }
+}
+
+/// The table with a row in the midst of an 8001 of `length` bytes.
+pub fn half_read(table: &Table, farm: usize, seat: usize, count: u32, length: u32) -> [u8; TABLE] {
+    let mut table = table.clone();
+    let row = &mut table.farms[farm].rows[seat];
+    row.place = Place::Reading(count);
+    row.header[..4].copy_from_slice(&[0x03, 0xFC, 0x80, 0x01]);
+    row.header[4..].copy_from_slice(&length.to_be_bytes());
+    table_bytes(&table)
 }
 
 /// The shortest run of bytes that makes one table of the other: its place and the bytes.
