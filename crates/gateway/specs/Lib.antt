@@ -1,4 +1,0 @@
-pub mod Ready
-pub mod Moved
-pub mod Ticked
-pub mod Heard

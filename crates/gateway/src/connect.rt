@@ -1,32 +1,14 @@
 // "connect": "Connect opens the lowest free row of the farm, so freed rows are used again."
-ghost use mathlib.Core.Path.{_≡_};
-ghost use Prim.Native.Nat.{_<_, _≤_};
-ghost use lib.ListN.{length};
-ghost use Rattle.sheet.specs.Sheet.{mostFarms};
 ghost use Rattle.model.specs.Table.{connectTo};
-ghost use Rattle.table.specs.Layout.{seats, tableSize};
-ghost use Rattle.table.specs.Block.{Whole};
-ghost use Rattle.lent.specs.Lent.{block, lentStep};
+ghost use Rattle.lent.specs.Lent.{lentStep};
 ghost use Rattle.lent.specs.Served.{memory, Served};
-ghost use Rattle.gateway.specs.Moved.{ConnectedAt};
-use crate::answer;
 use crate::gate;
 use kinds::FarmNo;
 use lent::Answer;
 use octets::Found;
+use serve::answer;
 use sheet::farms;
-use table::BLOCK;
 use table::TABLE;
-
-// The farm's block is lent alone.
-fn connect_at(t: &mut [u8], f: usize, rows: usize) -> Found
-    requires { ⌜ (f < mostFarms) × (length (now t) ≡ tableSize) × (rows ≤ seats) × Whole (block (now t) f) ⌝ }
-    ensures { λ r. ⌜ ConnectedAt f rows (now (t .entry)) (now (t .exit)) r ⌝ }
-{
-    let a = f * BLOCK;
-    let e = a + BLOCK;
-    farm::connect::connect(&mut t[a..e], rows)
-}
 
 pub fn connect(s: &[u8], t: &mut [u8; TABLE], out: &mut [u8], m: &[u8], f: FarmNo) -> Answer
     ensures { λ r. ⌜ Served (now (s .entry)) (lentStep (now (s .entry)) (now (t .entry)) (now (out .entry)) (now (m .entry)) (connectTo (f .0))) r (memory (now (t .entry)) (now (out .entry)) (now (m .entry))) (memory (now (t .exit)) (now (out .exit)) (now (m .entry))) ⌝ }
@@ -40,7 +22,7 @@ pub fn connect(s: &[u8], t: &mut [u8; TABLE], out: &mut [u8], m: &[u8], f: FarmN
     }
     let site = site::site_of(s, f);
     let rows = octets::wide(site.quota) + 1;
-    let found = connect_at(t, f.0 as usize, rows);
+    let found = serve::connect::connect_at(t, f.0 as usize, rows);
     let Found::At(seat) = found else {
         return answer::refused(8);
     };

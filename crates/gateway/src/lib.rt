@@ -1,10 +1,12 @@
 // The eight calls that a host makes, and the query of a farm's meters. All memory is lent: the farm sheet, the table, the output buffer,
 // the assembling buffer, the input. No call asks anything of what it is lent: what it can't serve it refuses by document 01's number, and
 // then nothing lent has changed.
-pub mod answer; // answer.rt: a refusal, and the output sheet of a call that is done
-pub mod at; // at.rt: what is asked of a farm's block
+pub mod bytes; // bytes.rt: bytes from a row
 pub mod closed; // closed.rt: peer closed, link lost
 pub mod connect; // connect.rt: connect
+pub mod controller; // controller.rt: message from a controller
+pub mod datagrams; // datagrams.rt: datagram
 pub mod gate; // gate.rt: refusals 1 to 4
 pub mod meters; // meters.rt: a farm's meters
 pub mod start; // start.rt: a fresh table
+pub mod tick; // tick.rt: tick

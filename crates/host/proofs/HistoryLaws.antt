@@ -36,7 +36,7 @@ unfolding lentStep step
 lent-step s t out m c w =
     ap (λ b. ifLent s (lentOf out m) (unless b (refuses 4) (step s (lentOf out m) (lentTable s t m) c))) w
     ∙ twice (goodSheet s) (leb leastOutput (length out)) (eqb (length m) assemblingSize)
-      (unless (goodTable s (lentTable s t m)) (refuses 4) (called s (lentTable s t m) (whose s c)))
+    (unless (goodTable s (lentTable s t m)) (refuses 4) (called s (lentTable s t m) (whose s c)))
 
 after-whole : (t : List ℕ) (o : Outcome) → wholeTable t ≡ true → wholeAfter t o ≡ true
 after-whole t (refuses n) w = w

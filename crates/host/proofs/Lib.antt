@@ -1,3 +1,4 @@
 pub mod HistoryLaws
 pub mod RoomLaws
 pub mod Promises
+pub mod Apart

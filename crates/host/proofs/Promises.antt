@@ -32,7 +32,7 @@ use Rattle.model.proofs.Neighbour.{SameShape}
 use Rattle.model.proofs.Promises as rules
 use Rattle.table.specs.Block.{farmOf}
 use Rattle.lent.specs.declared.Answer.{Answer}
-use Rattle.lent.specs.Lent.{block, heldAt, lentTable, lentStep}
+use Rattle.lent.specs.Lent.{block, heldAt, lentTable, lentStep, lentStart}
 use Rattle.lent.specs.Served.{Memory, memory, Served}
 use Rattle.lent.proofs.LentLaws.{slot-is}
 use Rattle.lent.proofs.ServedLaws.{served-once}
@@ -44,6 +44,9 @@ use Rattle.host.proofs.RoomLaws.{rooms-slots, rooms-count, room-long, r
 
 pub call-settled : (s : List ℕ) (c : Call) (a b : Answer) (before x y : Memory) → CallServed s c a before x → CallServed s c b before y → (a ≡ b) × (x ≡ y)
 call-settled s c a b before x y = served-once s (lentStep s (before .table) (before .output) (before .assembling) c) a b before x y
+
+pub start-settled : (s : List ℕ) (a b : Answer) (before x y : Memory) → StartServed s a before x → StartServed s b before y → (a ≡ b) × (x ≡ y)
+start-settled s a b before x y = served-once s (lentStart s (before .table) (before .output) (before .assembling)) a b before x y
 
 -- ---- the farm that a block means is the slot of the model's table
 
@@ -153,7 +156,7 @@ module _ {s t m t' m' : List ℕ} (b : Began s t m) (b' : Began s t' m') where
   same-for-the-farm {ms} {ns} h h' g i e =
       ap (λ (y : Table). hasOf s g y ms) (began-fresh b)
       ∙ rules.same-for-the-farm s (began-lendable b .sheet) g i (rooms b) (rooms b') (slots b) (slots b') (shape g i) ms ns
-        (ap (λ (y : Table). callsOf s g y ms) (sym (began-fresh b)) ∙ e ∙ ap (λ (y : Table). callsOf s g y ns) (began-fresh b'))
+      (ap (λ (y : Table). callsOf s g y ms) (sym (began-fresh b)) ∙ e ∙ ap (λ (y : Table). callsOf s g y ns) (began-fresh b'))
       ∙ sym (ap (λ (y : Table). hasOf s g y ns) (began-fresh b'))
     where
       slots : {x y : List ℕ} (z : Began s x y) → g < length (rooms z)

@@ -118,7 +118,7 @@ module _ (s out m : List ℕ) where
   starts p t =
       rw (good-says s .all (p .sheet), says-le leastOutput (length out) .all (p .output), says-eq (length m) assemblingSize .all (p .assembling))
 
--- ---- test by test, as the code asks them
+  -- ---- test by test, as the code asks them
 
   pub number-1 : goodSheet s ≡ false → 1 ≡ startNumber s out m
   unfolding startNumber

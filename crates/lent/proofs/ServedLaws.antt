@@ -50,6 +50,7 @@ served-did s o d t out m table output assembling n good e l w =
 -- ---- ANY TWO RESULTS THAT A CONTRACT ALLOWS ARE EQUAL
 
 pub served-once : (s : List ℕ) (o : Outcome) (a b : Answer) (before x y : Memory) → Served s o a before x → Served s o b before y → (a ≡ b) × (x ≡ y)
-served-once s o a b before x y p q =
-    (rw (p .number, p .row, p .taken, p .outputLength, q .number, q .row, q .taken, q .outputLength),
-    rw (p .tableIs, p .outputIs, p .assemblingIs, q .tableIs, q .outputIs, q .assemblingIs))
+served-once s o a b before x y p q = (
+  rw (p .number, p .row, p .taken, p .outputLength, q .number, q .row, q .taken, q .outputLength),
+  rw (p .tableIs, p .outputIs, p .assemblingIs, q .tableIs, q .outputIs, q .assemblingIs),
+)

@@ -114,11 +114,30 @@ fn zeros_from(head: [u8; HEADER], n: usize) -> bool
     true
 }
 
+// Between two messages no byte is in hand, and most rows are there: the eight bytes as two numbers.
+fn none_in_hand(head: [u8; HEADER]) -> bool
+    ensures { λ r. ⌜ r ≡ sameList head (replicate headerSize 0) ⌝ }
+{
+    if octets::read32(&head, 0) != 0 {
+        return false;
+    }
+    octets::read32(&head, 4) == 0
+}
+
+fn rest_zero(head: [u8; HEADER], n: u8) -> bool
+    ensures { λ r. ⌜ r ≡ sameList (drop n head) (replicate (headerSize - n) 0) ⌝ }
+{
+    if n == 0 {
+        return none_in_hand(head);
+    }
+    zeros_from(head, octets::wide(n))
+}
+
 pub fn tidy(place: Place, head: [u8; HEADER]) -> bool
     ensures { λ r. ⌜ r ≡ tidyAt place head ⌝ }
 {
     match place {
-        Place::Header(n) => zeros_from(head, octets::wide(n)),
+        Place::Header(n) => rest_zero(head, n),
         Place::Reading(_) => true,
         Place::Skipping(_) => true,
     }

@@ -8,15 +8,15 @@ use Rattle.sheet.proofs.LengthLaws.{good-lengths}
 use Rattle.lent.proofs.GateLaws.{gate-passes}
 use Rattle.lent.proofs.CallLaws.{refused-as, gate-served}
 use Rattle.model.specs.Move.{linkLost}
-use Rattle.gateway.proofs.ServeLaws.{ready-of, farm-unknown}
+use Rattle.serve.proofs.ServeLaws.{ready-of, farm-unknown}
 use Rattle.gateway.proofs.CallsLaws.{link-served}
 use borrow.Author.Needs.{needs}
 use Rattle.gateway.proofs.closed.link_lost.Statement.{statement}
 use Rattle.gateway.proofs.closed.link_lost.Tie as tie
 use Rattle.gateway.proofs.closed.link_lost.Reads as reads
 use Rattle.gateway.proofs.closed.link_lost.Lts as lts
-use Rattle.gateway.proofs.answer.refused.Reads as refused-reads
-use Rattle.gateway.proofs.closed.close_farm.Reads as close-farm-reads
+use Rattle.serve.proofs.answer.refused.Reads as refused-reads
+use Rattle.serve.proofs.closed.close_farm.Reads as close-farm-reads
 use Rattle.gateway.proofs.gate.refusal.Reads as refusal-reads
 use Rattle.sheet.proofs.farms.has_farm.Reads as has-farm-reads
 

@@ -10,16 +10,16 @@ use Rattle.lent.proofs.GateLaws.{gate-passes}
 use Rattle.lent.proofs.CallLaws.{refused-as, gate-served}
 use Rattle.model.specs.Move.{peerClosed}
 use Rattle.sheet.proofs.RowsLaws.{owner-seat, owned-few}
-use Rattle.gateway.proofs.ServeLaws.{ready-of, row-unknown}
+use Rattle.serve.proofs.ServeLaws.{ready-of, row-unknown}
 use Rattle.gateway.proofs.CallsLaws.{peer-not-open, peer-served}
 use borrow.Author.Needs.{needs}
 use Rattle.gateway.proofs.closed.peer_closed.Statement.{statement}
 use Rattle.gateway.proofs.closed.peer_closed.Tie as tie
 use Rattle.gateway.proofs.closed.peer_closed.Reads as reads
 use Rattle.gateway.proofs.closed.peer_closed.Lts as lts
-use Rattle.gateway.proofs.answer.refused.Reads as refused-reads
-use Rattle.gateway.proofs.at.is_open.Reads as is-open-reads
-use Rattle.gateway.proofs.closed.close_row.Reads as close-row-reads
+use Rattle.serve.proofs.answer.refused.Reads as refused-reads
+use Rattle.serve.proofs.at.is_open.Reads as is-open-reads
+use Rattle.serve.proofs.closed.close_row.Reads as close-row-reads
 use Rattle.gateway.proofs.gate.refusal.Reads as refusal-reads
 use Rattle.octets.proofs.wide.Reads as wide-reads
 use Rattle.sheet.proofs.rows.owner_of.Reads as owner-of-reads

@@ -4,7 +4,7 @@ use Prim.Native.Nat.{ℕ, _+_, _≤_, _<_}
 use Rattle.sheet.specs.Sheet.{mostRows}
 use Rattle.table.specs.Layout.{seats}
 use Rattle.site.proofs.SiteLaws.{sited-rows, sited-few, sited-first, sited-row}
-use Rattle.gateway.proofs.MovedLaws.{ready-below}
+use Rattle.serve.proofs.MovedLaws.{ready-below}
 use mathlib.Core.Path.{refl, sym, ap, subst, _∙_}
 use native.Mathlib.Omega.{arith}
 use borrow.Author.Tests.{not-true, not-false, ltb-true, ltb-false}
@@ -14,16 +14,16 @@ use Rattle.model.specs.Table.{whose, leastOutput}
 use Rattle.farm.proofs.RowsLaws.{connected-below}
 use Rattle.lent.proofs.GateLaws.{gate-passes}
 use Rattle.lent.proofs.CallLaws.{refused-as, gate-served}
-use Rattle.gateway.proofs.ServeLaws.{ready-of, farm-unknown}
+use Rattle.serve.proofs.ServeLaws.{ready-of, farm-unknown}
 use Rattle.gateway.proofs.CallsLaws.{connect-refused, connect-served}
 use borrow.Author.Needs.{needs}
 use Rattle.gateway.proofs.connect.connect.Statement.{statement}
 use Rattle.gateway.proofs.connect.connect.Tie as tie
 use Rattle.gateway.proofs.connect.connect.Reads as reads
 use Rattle.gateway.proofs.connect.connect.Lts as lts
-use Rattle.gateway.proofs.answer.finish_empty.Reads as finish-empty-reads
-use Rattle.gateway.proofs.answer.refused.Reads as refused-reads
-use Rattle.gateway.proofs.connect.connect_at.Reads as connect-at-reads
+use Rattle.serve.proofs.answer.finish_empty.Reads as finish-empty-reads
+use Rattle.serve.proofs.answer.refused.Reads as refused-reads
+use Rattle.serve.proofs.connect.connect_at.Reads as connect-at-reads
 use Rattle.gateway.proofs.gate.refusal.Reads as refusal-reads
 use Rattle.octets.proofs.wide.Reads as wide-reads
 use Rattle.sheet.proofs.farms.has_farm.Reads as has-farm-reads

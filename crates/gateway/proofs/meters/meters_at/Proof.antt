@@ -4,7 +4,7 @@ use mathlib.Core.Path.{ap, _∙_}
 use mathlib.Core.List.{List}
 use Prim.Native.Nat.{ℕ}
 use Rattle.table.specs.Block.{farmOf}
-use Rattle.gateway.proofs.BlockLaws.{lent-is}
+use Rattle.serve.proofs.BlockLaws.{lent-is}
 use borrow.Author.Needs.{needs}
 use Rattle.gateway.proofs.meters.meters_at.Statement.{statement}
 use Rattle.gateway.proofs.meters.meters_at.Tie as tie

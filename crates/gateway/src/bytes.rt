@@ -1,0 +1,40 @@
+// "bytes from a row".
+ghost use Rattle.model.specs.Table.{bytesFrom};
+ghost use Rattle.lent.specs.Lent.{lentStep};
+ghost use Rattle.lent.specs.Served.{memory, Served};
+use crate::gate;
+use kinds::RowNo;
+use lent::Answer;
+use serve::answer;
+use serve::at;
+use sheet::rows;
+use table::TABLE;
+
+// Refusals "6 | row not open" and "7 | bytes for a waiting row, even none", then the bytes are taken.
+pub fn bytes(
+    s: &[u8],
+    t: &mut [u8; TABLE],
+    out: &mut [u8],
+    m: &mut [u8],
+    row: RowNo,
+    input: &[u8],
+) -> Answer
+    ensures { λ r. ⌜ Served (now (s .entry)) (lentStep (now (s .entry)) (now (t .entry)) (now (out .entry)) (now (m .entry)) (bytesFrom (row .0) (now (input .entry)))) r (memory (now (t .entry)) (now (out .entry)) (now (m .entry))) (memory (now (t .exit)) (now (out .exit)) (now (m .exit))) ⌝ }
+{
+    let n = gate::refusal(s, t, out, m);
+    if 0 < n {
+        return answer::refused(n);
+    }
+    let owner = rows::owner_of(s, row);
+    let rows::Owner::Seat(f, k) = owner else {
+        return answer::refused(6);
+    };
+    let seat = octets::wide(k);
+    if !at::is_open(t, f, seat) {
+        return answer::refused(6);
+    }
+    if at::is_waiting(t, f, seat) {
+        return answer::refused(7);
+    }
+    serve_bytes::take(s, t, out, m, f, seat, input)
+}

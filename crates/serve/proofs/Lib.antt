@@ -1,0 +1,5 @@
+pub mod AnswerLaws
+pub mod BlockLaws
+pub mod MovedLaws
+pub mod ServeLaws
+pub mod SaidLaws
