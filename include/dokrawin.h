@@ -69,7 +69,8 @@
  *      bytes that came in time should be seen in time.
  *   5. Call dokrawin_peer_closed when a connection ends or fails on its own, or when you give it up because its peer does not read. Do
  *      not call it for a row that the core has closed (it would be refused with 6, or hit the connection that has the row next).
- *   6. Announcements, their delays, DHCP, TLS and limits per IP address are yours: the core only answers.
+ *   6. Announcements, their delays, DHCP, TLS and limits per IP address are yours: the core only answers. The bytes of an announcement are
+ *      those that dokrawin_datagram answers to a vehicle identification request of your own (03 FC 00 01 00 00 00 00).
  *
  * All numbers in messages and sheets are big-endian. The library is compiled for x86-64 Linux (System V calling convention).
  */
