@@ -27,13 +27,15 @@ abbrev pub wholeAt : ℕ → ℕ → Read → Next
 wholeAt start n (read.Is r) = Whole r (start + 1 + fixedOf r) (start + n)
 wholeAt start n read.Bad = Bad
 
--- the length is judged first, then whether all is there, then kind and fields
-unfoldable pub nextAt : List ℕ → ℕ → Next
+-- the length is judged first, then whether all is there, then kind and fields: so many bytes are left, so many after the length n
+unfoldable pub nextOf : ℕ → ℕ → ℕ → Next → Next
+nextOf left after n whole =
+    pick (ltb left 2) Cut (pick (ltb n leastLength) Bad (pick (ltb mostLength n) Bad (pick (ltb after n) Cut whole)))
+
+abbrev pub nextAt : List ℕ → ℕ → Next
 nextAt s at =
-    pick (ltb (length s - at) 2) Cut
-    (pick (ltb (u16At s at) leastLength) Bad
-    (pick (ltb mostLength (u16At s at)) Bad
-    (pick (ltb (length s - (at + 2)) (u16At s at)) Cut (wholeAt (at + 2) (u16At s at) (recordIn (part s (at + 2) (u16At s at)))))))
+    nextOf (length s - at) (length s - (at + 2)) (u16At s at)
+    (wholeAt (at + 2) (u16At s at) (recordIn (part s (at + 2) (u16At s at))))
 
 -- "each at most 65,536"
 abbrev pub RoomsFit : Record → Type 0

@@ -15,14 +15,14 @@ use Rattle.day.specs.declared.records.Read.{Read}
 use Rattle.day.specs.declared.records.Read.the-variants.{Is, Bad}
 
 -- "a wrong number of fields" is bad
-abbrev pub where-right : Bool → Record → Read
-where-right right r = pick right (Is r) Bad
+abbrev pub ifRight : Bool → Record → Read
+ifRight right r = pick right (Is r) Bad
 
-abbrev farm : ℕ → FarmNo
-farm n = record { 0 = n }
+abbrev pub farmNo : ℕ → FarmNo
+farmNo n = record { 0 = n }
 
-abbrev row : ℕ → RowNo
-row n = record { 0 = n }
+abbrev pub rowNo : ℕ → RowNo
+rowNo n = record { 0 = n }
 
 -- A definition for each row of the format's table, over the bytes after the kind byte.
 -- "| 0 | sheet | the farm sheet's bytes |"
@@ -31,45 +31,46 @@ sheetIn f = Is Sheet
 
 -- "| 1 | start | none |", "| 6 | tick | none |"
 abbrev pub emptyIn : List ℕ → Record → Read
-emptyIn f r = where-right (eqb (length f) 0) r
+emptyIn f r = ifRight (eqb (length f) 0) r
 
 -- "| 2 | connect | farm u8 |"
 abbrev pub connectIn : List ℕ → Read
-connectIn f = where-right (eqb (length f) 1) (Connect (farm (getD f 0 0)))
+connectIn f = ifRight (eqb (length f) 1) (Connect (farmNo (getD f 0 0)))
 
 -- "| 3 | bytes | row u8, bytes (perhaps none) |"
 abbrev pub bytesIn : List ℕ → Read
-bytesIn f = where-right (leb 1 (length f)) (Bytes (row (getD f 0 0)))
+bytesIn f = ifRight (leb 1 (length f)) (Bytes (rowNo (getD f 0 0)))
 
 -- "| 4 | closed | row u8 |"
 abbrev pub closedIn : List ℕ → Read
-closedIn f = where-right (eqb (length f) 1) (Closed (row (getD f 0 0)))
+closedIn f = ifRight (eqb (length f) 1) (Closed (rowNo (getD f 0 0)))
 
 -- "| 5 | lost | farm u8 |"
 abbrev pub lostIn : List ℕ → Read
-lostIn f = where-right (eqb (length f) 1) (Lost (farm (getD f 0 0)))
+lostIn f = ifRight (eqb (length f) 1) (Lost (farmNo (getD f 0 0)))
 
 -- "| 7 | datagram | farm u8, bytes (perhaps none) |"
 abbrev pub datagramIn : List ℕ → Read
-datagramIn f = where-right (leb 1 (length f)) (Datagram (farm (getD f 0 0)))
+datagramIn f = ifRight (leb 1 (length f)) (Datagram (farmNo (getD f 0 0)))
 
 -- "| 8 | controller | farm u8, controller u16, tester u16, user data (perhaps none) |"
 abbrev pub controllerIn : List ℕ → Read
-controllerIn f = where-right (leb 5 (length f)) (Controller (farm (getD f 0 0)) (u16At f 1) (u16At f 3))
+controllerIn f = ifRight (leb 5 (length f)) (Controller (farmNo (getD f 0 0)) (u16At f 1) (u16At f 3))
 
 -- "| 9 | rooms | output length u32, assembling length u32, each at most 65,536 |"
 abbrev pub mostRoom : ℕ
 mostRoom = 65536
 
-unfoldable pub roomsIn : List ℕ → Read
-roomsIn f =
-    pick (eqb (length f) 8)
-    (pick (leb (u32At f 0) mostRoom) (where-right (leb (u32At f 4) mostRoom) (Rooms (u32At f 0) (u32At f 4))) Bad)
-    Bad
+unfoldable pub roomsOf : ℕ → ℕ → ℕ → Read
+roomsOf n output assembling =
+    pick (eqb n 8) (pick (leb output mostRoom) (ifRight (leb assembling mostRoom) (Rooms output assembling)) Bad) Bad
+
+abbrev pub roomsIn : List ℕ → Read
+roomsIn f = roomsOf (length f) (u32At f 0) (u32At f 4)
 
 -- "| 10 | damage | place u16, bytes |"
 abbrev pub damageIn : List ℕ → Read
-damageIn f = where-right (leb 2 (length f)) (Damage (u16At f 0))
+damageIn f = ifRight (leb 2 (length f)) (Damage (u16At f 0))
 
 -- "an unknown kind" is bad
 unfoldable pub recordOf : ℕ → List ℕ → Read

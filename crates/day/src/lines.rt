@@ -4,7 +4,7 @@ ghost use mathlib.Core.List.{_++_};
 ghost use Prim.Native.Nat.{_+_, _*_, _≤_};
 ghost use lib.ListN.{length};
 ghost use Rattle.day.specs.Text.{decimal, mostDigits, Wrote};
-ghost use Rattle.day.specs.Lines.{mostCounts, mostFarmLine, mostLastLine, countsText, sheetText, answerLine, farmText, farmLine, lastWord, lastLine};
+ghost use Rattle.day.specs.Lines.{mostCounts, mostFarmLine, mostLastLine, countsText, sheetText, answerLine, farmLine, lastWord, lastLine};
 use crate::text;
 
 // How the file ended.

@@ -1,5 +1,6 @@
 -- `records::controller_in` meets its contract.
 -- Assumes nothing.
+use borrow.Author.Tests.{le-leb, lt-leb}
 use borrow.Author.Needs.{needs}
 use Rattle.day.proofs.records.controller_in.Statement.{statement}
 use Rattle.day.proofs.records.controller_in.Tie as tie
@@ -17,10 +18,10 @@ shared-slice-read-t7 : tie.Need-shared-slice-read-t7
 shared-slice-read-t7 c = search needs
 
 returns : tie.Need-returns
-returns c = ?
+returns c = simp (le-leb _ _ (c .before .before .before .if1 .taken), c .before .before .read16 .ensures, c .before .read162 .ensures)
 
 returns-2 : tie.Need-returns-2
-returns-2 c = ?
+returns-2 c = simp (lt-leb _ _ (c .if1 .left))
 
 pub controller-in-spec : {M : Type 1} → statement M
 controller-in-spec =

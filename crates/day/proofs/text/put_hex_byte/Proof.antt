@@ -24,7 +24,7 @@ same-length : tie.Need-same-length
 same-length c = search needs
 
 returns : tie.Need-returns
-returns c = ?
+returns c = rw (c .before .before .put .ensures, c .before .before .before .before .before .digit2 .ensures, c .before .before .before .before .before .before .digit .ensures)
 
 pub put-hex-byte-spec : {M : Type 1} → statement M
 put-hex-byte-spec =

@@ -1,0 +1,51 @@
+-- `lines::put_counts` meets its contract.
+-- Assumes nothing.
+use borrow.Author.Needs.{needs}
+use Rattle.day.proofs.lines.put_counts.Statement.{statement}
+use Rattle.day.proofs.lines.put_counts.Tie as tie
+use Rattle.day.proofs.lines.put_counts.Reads as reads
+use Rattle.day.proofs.lines.put_counts.Lts as lts
+use Rattle.day.proofs.lines.put_named.Reads as put-named-reads
+use Rattle.day.proofs.lines.put_words.Reads as put-words-reads
+use Rattle.day.proofs.text.put_decimal.Reads as put-decimal-reads
+
+put-decimal-requires : tie.Need-put-decimal-requires
+put-decimal-requires c κs = search needs
+
+slice-aggregate-put-named : tie.Need-slice-aggregate-put-named
+slice-aggregate-put-named c = search needs
+
+put-named-requires : tie.Need-put-named-requires
+put-named-requires c κs = ?
+
+slice-aggregate-put-named-2 : tie.Need-slice-aggregate-put-named-2
+slice-aggregate-put-named-2 c = search needs
+
+put-named-requires-2 : tie.Need-put-named-requires-2
+put-named-requires-2 c κs = ?
+
+slice-aggregate-put-words : tie.Need-slice-aggregate-put-words
+slice-aggregate-put-words c = search needs
+
+put-words-requires : tie.Need-put-words-requires
+put-words-requires c κs = ?
+
+same-length : tie.Need-same-length
+same-length c = search needs
+
+returns : tie.Need-returns
+returns c = ?
+
+pub put-counts-spec : {M : Type 1} → statement M
+put-counts-spec =
+    tie.close
+    (tie.spec
+    put-decimal-requires
+    slice-aggregate-put-named
+    put-named-requires
+    slice-aggregate-put-named-2
+    put-named-requires-2
+    slice-aggregate-put-words
+    put-words-requires
+    same-length
+    returns)
