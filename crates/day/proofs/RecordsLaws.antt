@@ -77,7 +77,7 @@ among-rooms n o a =
   where
     by : (x y z : Bool) → (x ≡ true → 8 ≤ n) → (y ≡ true → o ≤ mostRoom) → (z ≡ true → a ≤ mostRoom)
         → Among (pick x (pick y (ifRight z (Rooms o a)) read.Bad) read.Bad) n
-    by true true true f g h = (f refl, g refl, h refl)
+    by true true true f g h = (f refl, (g refl, h refl))
     by true true false f g h = tt
     by true false z f g h = tt
     by false y z f g h = tt

@@ -38,19 +38,19 @@ same-length : tie.Need-same-length
 same-length c = search needs
 
 returns : tie.Need-returns
-returns c = ?
+returns c = rw (c .before .before .before .before .before .before .e .given .1) (c .before .before .put-named .ensures)
 
 same-length-2 : tie.Need-same-length-2
 same-length-2 c = search needs
 
 returns-2 : tie.Need-returns-2
-returns-2 c = ?
+returns-2 c = rw (c .before .before .before .before .before .before .e2 .given .1) (c .before .before .put-named2 .ensures)
 
 same-length-3 : tie.Need-same-length-3
 same-length-3 c = search needs
 
 returns-3 : tie.Need-returns-3
-returns-3 c = ?
+returns-3 c = rw (c .before .before .before .before .before .before .e3 .given .1) (c .before .before .put-named3 .ensures)
 
 pub put-ending-spec : {M : Type 1} → statement M
 put-ending-spec =

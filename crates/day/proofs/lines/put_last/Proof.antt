@@ -1,5 +1,8 @@
 -- `lines::put_last` meets its contract.
 -- Assumes nothing.
+use native.Mathlib.Omega.{arith}
+use Rattle.day.proofs.TextLaws.{wrote-more}
+use Rattle.day.proofs.LinesLaws.{length-last}
 use borrow.Author.Needs.{needs}
 use Rattle.day.proofs.lines.put_last.Statement.{statement}
 use Rattle.day.proofs.lines.put_last.Tie as tie
@@ -15,13 +18,13 @@ slice-aggregate-put-words : tie.Need-slice-aggregate-put-words
 slice-aggregate-put-words c = search needs
 
 put-words-requires : tie.Need-put-words-requires
-put-words-requires c κs = ?
+put-words-requires c κs = omega (arith, c .before .before .before .before .put-ending .ensures .after, length-last (c .before .before .before .before .before .before .before .args .e), c .before .before .before .before .put-ending .kept .0, c .before .before .before .before .before .before .before .pre)
 
 same-length : tie.Need-same-length
 same-length c = search needs
 
 returns : tie.Need-returns
-returns c = ?
+returns c = wrote-more (c .before .before .before .before .before .before .before .put-ending .ensures) (c .before .before .put-words .ensures) (omega (arith, c .before .before .before .before .before .before .before .put-ending .ensures .after, length-last (c .before .before .before .before .before .before .before .before .before .before .args .e), c .before .before .before .before .before .before .before .before .before .before .pre))
 
 pub put-last-spec : {M : Type 1} → statement M
 put-last-spec =

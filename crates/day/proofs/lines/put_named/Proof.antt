@@ -1,5 +1,7 @@
 -- `lines::put_named` meets its contract.
 -- Assumes nothing.
+use native.Mathlib.Omega.{arith}
+use Rattle.day.proofs.TextLaws.{length-decimal, wrote-more}
 use borrow.Author.Needs.{needs}
 use Rattle.day.proofs.lines.put_named.Statement.{statement}
 use Rattle.day.proofs.lines.put_named.Tie as tie
@@ -18,7 +20,7 @@ same-length : tie.Need-same-length
 same-length c = search needs
 
 returns : tie.Need-returns
-returns c = ?
+returns c = wrote-more (c .before .before .before .before .before .before .put-words .ensures) (c .before .before .put-decimal .ensures) (omega (arith, c .before .before .before .before .before .before .put-words .ensures .after, length-decimal (c .before .before .before .before .before .before .before .before .before .before .args .n), c .before .before .before .before .before .before .before .before .before .before .pre))
 
 pub put-named-spec : {M : Type 1} → statement M
 put-named-spec = tie.close (tie.spec put-words-requires put-decimal-requires same-length returns)

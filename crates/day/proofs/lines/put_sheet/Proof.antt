@@ -1,5 +1,6 @@
 -- `lines::put_sheet` meets its contract.
 -- Assumes nothing.
+use borrow.Author.Tests.{eq-eqb, ne-eqb}
 use borrow.Author.Needs.{needs}
 use Rattle.day.proofs.lines.put_sheet.Statement.{statement}
 use Rattle.day.proofs.lines.put_sheet.Tie as tie
@@ -15,7 +16,7 @@ same-length : tie.Need-same-length
 same-length c = search needs
 
 returns : tie.Need-returns
-returns c = ?
+returns c = rw (eq-eqb _ _ (c .before .before .before .before .if1 .taken)) (c .before .before .put-hex .ensures)
 
 slice-aggregate-put-words : tie.Need-slice-aggregate-put-words
 slice-aggregate-put-words c = search needs
@@ -27,7 +28,7 @@ same-length-2 : tie.Need-same-length-2
 same-length-2 c = search needs
 
 returns-2 : tie.Need-returns-2
-returns-2 c = ?
+returns-2 c = rw (ne-eqb _ _ (c .before .before .before .before .before .if1 .left)) (c .before .before .put-words .ensures)
 
 pub put-sheet-spec : {M : Type 1} → statement M
 put-sheet-spec =

@@ -135,8 +135,12 @@ add-rest-2 c = let s : List ℕ = c .before .before .before .before .before .bef
     let n : ℕ = c .before .before .before .before .before .before .before .before .before .read16 .result in
     let e : n ≡ u16At s at = c .before .before .before .before .before .before .before .before .before .read16 .ensures in
     let z : at + 2 + n - (at + 2) ≡ n = omega arith in
-    let r : Record = c .before .known-told .given .0 in
-    omega arith
+    let r : Record = c .before .before .read .given .0 .0 in
+    let is : recordIn (part s (at + 2) n) ≡ read.Is r =
+    ap (λ (k : ℕ). recordIn (part s (at + 2) k)) (sym z) ∙ sym (c .before .before .before .before .record-in .ensures) ∙ c .before .before .read .given .1
+    in
+    let lies = whole-lies s at n r (c .before .before .before .before .before .before .before .before .before .before .before .before .pre) (c .before .before .before .before .before .before .before .before .before .before .if1 .left) (c .before .before .before .before .before .before .before .before .if2 .left) (c .before .before .before .before .before .before .before .if3 .left) (c .before .before .before .before .before .before .if4 .left) is in
+    omega (arith, lies .1, lies .2, c .fixed-size .ensures)
 
 returns-6 : tie.Need-returns-6
 returns-6 c = let s : List ℕ = c .before .before .before .before .before .before .before .before .before .before .before .before .args .s .now in
@@ -147,7 +151,7 @@ returns-6 c = let s : List ℕ = c .before .before .before .before .before .befo
     let n : ℕ = c .before .before .before .before .before .before .before .before .before .read16 .result in
     let e : n ≡ u16At s at = c .before .before .before .before .before .before .before .before .before .read16 .ensures in
     let z : at + 2 + n - (at + 2) ≡ n = omega arith in
-    let r : Record = c .before .before .read .given .0 in
+    let r : Record = c .before .before .read .given .0 .0 in
     let is : recordIn (part s (at + 2) n) ≡ read.Is r =
     ap (λ (k : ℕ). recordIn (part s (at + 2) k)) (sym z) ∙ sym (c .before .before .before .before .record-in .ensures) ∙ c .before .before .read .given .1
     in

@@ -1,6 +1,12 @@
 -- `text::+put_digits` meets its contract.
 -- Assumes nothing.
-use Prim.Native.Nat.{ℕ, _<_}
+use mathlib.Core.Path.{_≡_, _∙_}
+use Prim.Native.Nat.{ℕ, _-_, _/_, _<_}
+use native.Mathlib.Nat.{pos-of-ne-zero}
+use native.Mathlib.Omega.{arith}
+use lib.ListN.{length, length-set}
+use borrow.Author.Needs.{needs}
+use Rattle.day.proofs.TextLaws.{length-decimalIn, wrote-none, wrote-one, wrote-digit}
 use borrow.Fn.Kinds.{In}
 use borrow.Fn.PlainCycle.{Measures, is, falls, and}
 use Rattle.day.proofs.text.put_digits.Reads as put-digits
@@ -11,7 +17,7 @@ use Rattle.day.proofs.text.+put_digits.{statement}
 use Rattle.day.proofs.text.+put_digits.Tie.{close}
 
 abbrev μ-put-digits : Measures 1 put-digits-kinds.ps ℕ
-μ-put-digits κs a = ?
+μ-put-digits κs a = a .1 .1 .0
 
 abbrev put-digits-at : ℕ → In 1 put-digits-kinds.ps
 put-digits-at t =
@@ -27,7 +33,9 @@ put-digits-returns : (t : ℕ) → put-digits-lts.Need-returns (
   put-digits-below t,
   put-digits.Post,
 ) (put-digits-at t) put-digits.Post
-put-digits-returns t c = ?
+put-digits-returns t c = 
+    let a = c .before .before .args in
+    wrote-none (a .k) (a .n) (a .out .now) (a .at) (c .if1 .taken)
 
 put-digits-digit-requires : (t : ℕ) → put-digits-lts.Need-digit-requires (
   digit-reads.Asked,
@@ -35,7 +43,7 @@ put-digits-digit-requires : (t : ℕ) → put-digits-lts.Need-digit-requires (
   put-digits-below t,
   put-digits.Post,
 ) (put-digits-at t) put-digits.Post
-put-digits-digit-requires t c κs = ?
+put-digits-digit-requires t c κs = omega arith
 
 put-digits-slice-write-out : (t : ℕ) → put-digits-lts.Need-slice-write-out (
   digit-reads.Asked,
@@ -43,7 +51,7 @@ put-digits-slice-write-out : (t : ℕ) → put-digits-lts.Need-slice-write-out (
   put-digits-below t,
   put-digits.Post,
 ) (put-digits-at t) put-digits.Post
-put-digits-slice-write-out t c = ?
+put-digits-slice-write-out t c = omega (arith, pos-of-ne-zero (c .before .before .if1 .left), c .before .before .before .before .pre .1)
 
 put-digits-add-result : (t : ℕ) → put-digits-lts.Need-add-result (
   digit-reads.Asked,
@@ -51,7 +59,7 @@ put-digits-add-result : (t : ℕ) → put-digits-lts.Need-add-result (
   put-digits-below t,
   put-digits.Post,
 ) (put-digits-at t) put-digits.Post
-put-digits-add-result t c = ?
+put-digits-add-result t c = search needs
 
 put-digits-same-length : (t : ℕ) → put-digits-lts.Need-same-length (
   digit-reads.Asked,
@@ -59,7 +67,7 @@ put-digits-same-length : (t : ℕ) → put-digits-lts.Need-same-length (
   put-digits-below t,
   put-digits.Post,
 ) (put-digits-at t) put-digits.Post
-put-digits-same-length t c = ?
+put-digits-same-length t c = length-set (c .before .before .before .before .args .out .now) (c .before .before .before .before .args .at) (c .digit .result)
 
 put-digits-returns-2 : (t : ℕ) → put-digits-lts.Need-returns-2 (
   digit-reads.Asked,
@@ -67,7 +75,10 @@ put-digits-returns-2 : (t : ℕ) → put-digits-lts.Need-returns-2 (
   put-digits-below t,
   put-digits.Post,
 ) (put-digits-at t) put-digits.Post
-put-digits-returns-2 t c = ?
+put-digits-returns-2 t c = 
+    let a = c .before .before .before .before .args in
+    wrote-one (a .k) (a .n) (c .digit .result) (a .out .now) (a .at) (c .before .before .if1 .left) (c .before .if2 .taken) (c .digit .ensures)
+    (omega (arith, pos-of-ne-zero (c .before .before .if1 .left), c .before .before .before .before .pre .1))
 
 put-digits-sub-put-digits : (t : ℕ) → put-digits-lts.Need-sub-put-digits (
   digit-reads.Asked,
@@ -75,7 +86,7 @@ put-digits-sub-put-digits : (t : ℕ) → put-digits-lts.Need-sub-put-digits (
   put-digits-below t,
   put-digits.Post,
 ) (put-digits-at t) put-digits.Post
-put-digits-sub-put-digits t c = ?
+put-digits-sub-put-digits t c = pos-of-ne-zero (c .before .before .if1 .left)
 
 put-digits-put-digits-requires : (t : ℕ) → put-digits-lts.Need-put-digits-requires (
   digit-reads.Asked,
@@ -83,7 +94,11 @@ put-digits-put-digits-requires : (t : ℕ) → put-digits-lts.Need-put-digits-re
   put-digits-below t,
   put-digits.Post,
 ) (put-digits-at t) put-digits.Post
-put-digits-put-digits-requires t c κs = ?
+put-digits-put-digits-requires t c κs = 
+    let some : 0 < c .before .before .before .before .args .k = pos-of-ne-zero (c .before .before .if1 .left) in (
+      omega (arith, c .before .before .before .before .pre .0),
+      omega (arith, c .before .before .before .before .pre .1),
+    )
 
 put-digits-digit-requires-2 : (t : ℕ) → put-digits-lts.Need-digit-requires-2 (
   digit-reads.Asked,
@@ -91,7 +106,7 @@ put-digits-digit-requires-2 : (t : ℕ) → put-digits-lts.Need-digit-requires-2
   put-digits-below t,
   put-digits.Post,
 ) (put-digits-at t) put-digits.Post
-put-digits-digit-requires-2 t c κs = ?
+put-digits-digit-requires-2 t c κs = omega arith
 
 put-digits-slice-write-out-2 : (t : ℕ) → put-digits-lts.Need-slice-write-out-2 (
   digit-reads.Asked,
@@ -99,7 +114,13 @@ put-digits-slice-write-out-2 : (t : ℕ) → put-digits-lts.Need-slice-write-out
   put-digits-below t,
   put-digits.Post,
 ) (put-digits-at t) put-digits.Post
-put-digits-slice-write-out-2 t c = ?
+put-digits-slice-write-out-2 t c = 
+    let a = c .before .before .before .before .before .before .before .before .args in
+    let w = c .before .before .before .put-digits .ensures in
+    let fits : c .before .before .before .put-digits .result < length (a .out .now) =
+    omega (arith, w .after, pos-of-ne-zero (c .before .before .before .before .before .before .if1 .left), length-decimalIn (a .k - 1) (a .n / 10), c .before .before .before .before .before .before .before .before .pre .1)
+    in
+    omega (arith, fits, c .before .before .before .put-digits .kept .0)
 
 put-digits-add-result-2 : (t : ℕ) → put-digits-lts.Need-add-result-2 (
   digit-reads.Asked,
@@ -107,7 +128,13 @@ put-digits-add-result-2 : (t : ℕ) → put-digits-lts.Need-add-result-2 (
   put-digits-below t,
   put-digits.Post,
 ) (put-digits-at t) put-digits.Post
-put-digits-add-result-2 t c = ?
+put-digits-add-result-2 t c = 
+    let a = c .before .before .before .before .before .before .before .before .args in
+    let w = c .before .before .before .put-digits .ensures in
+    let fits : c .before .before .before .put-digits .result < length (a .out .now) =
+    omega (arith, w .after, pos-of-ne-zero (c .before .before .before .before .before .before .if1 .left), length-decimalIn (a .k - 1) (a .n / 10), c .before .before .before .before .before .before .before .before .pre .1)
+    in
+    search needs
 
 put-digits-same-length-2 : (t : ℕ) → put-digits-lts.Need-same-length-2 (
   digit-reads.Asked,
@@ -115,7 +142,7 @@ put-digits-same-length-2 : (t : ℕ) → put-digits-lts.Need-same-length-2 (
   put-digits-below t,
   put-digits.Post,
 ) (put-digits-at t) put-digits.Post
-put-digits-same-length-2 t c = ?
+put-digits-same-length-2 t c = length-set (c .before .before .before .put-digits .last .0) (c .before .before .before .put-digits .result) (c .digit2 .result) ∙ c .before .before .before .put-digits .kept .0
 
 put-digits-returns-3 : (t : ℕ) → put-digits-lts.Need-returns-3 (
   digit-reads.Asked,
@@ -123,7 +150,13 @@ put-digits-returns-3 : (t : ℕ) → put-digits-lts.Need-returns-3 (
   put-digits-below t,
   put-digits.Post,
 ) (put-digits-at t) put-digits.Post
-put-digits-returns-3 t c = ?
+put-digits-returns-3 t c = 
+    let a = c .before .before .before .before .before .before .before .before .args in
+    let w = c .before .before .before .put-digits .ensures in
+    let fits : c .before .before .before .put-digits .result < length (a .out .now) =
+    omega (arith, w .after, pos-of-ne-zero (c .before .before .before .before .before .before .if1 .left), length-decimalIn (a .k - 1) (a .n / 10), c .before .before .before .before .before .before .before .before .pre .1)
+    in
+    wrote-digit (a .k) (a .n) (c .digit2 .result) (a .out .now) (c .before .before .before .put-digits .last .0) (a .at) (c .before .before .before .put-digits .result) (c .before .before .before .before .before .before .if1 .left) (c .before .before .before .before .before .if2 .left) (c .digit2 .ensures) w fits
 
 pub +put-digits-spec : {M : Type 1} → statement M
 +put-digits-spec = close μ-put-digits λ t. put-digits-lts.spec (
