@@ -12,8 +12,9 @@ use Rattle.octets.specs.Choice.{pick}
 use Rattle.octets.specs.Numbers.{u16At, u32At}
 use Rattle.octets.specs.Parts.{part}
 use Rattle.octets.proofs.PartsLaws.{length-part}
+use Rattle.day.specs.declared.records.Call.the-variants.{Start, Connect, Bytes, Closed, Lost, Tick, Datagram, Controller}
 use Rattle.day.specs.declared.records.Record.{Record}
-use Rattle.day.specs.declared.records.Record.the-variants.{Sheet, Start, Connect, Bytes, Closed, Lost, Tick, Datagram, Controller, Rooms, Damage}
+use Rattle.day.specs.declared.records.Record.the-variants.{Made, Sheet, Rooms, Damage}
 use Rattle.day.specs.declared.records.Read.{Read}
 use Rattle.day.specs.declared.records.Read.the-variants as read
 use Rattle.day.specs.declared.records.Next.{Next}
@@ -102,14 +103,14 @@ among k f =
     let after1 : Read = pick (eqb k 2) (connectIn f) after2 in
     let after0 : Read = pick (eqb k 1) (emptyIn f Start) after1 in
     if-kind (eqb k 0) (read.Is Sheet) after0 n (omega arith, tt)
-    (if-kind (eqb k 1) (emptyIn f Start) after1 n (if-right (eqb n 0) Start n (λ e. (omega arith, tt)))
-    (if-kind (eqb k 2) (connectIn f) after2 n (if-right one (Connect (farmNo b0)) n (λ e. (exactly e, tt)))
-    (if-kind (eqb k 3) (bytesIn f) after3 n (if-right (leb 1 n) (Bytes (rowNo b0)) n (λ e. (leb-true 1 n e, tt)))
-    (if-kind (eqb k 4) (closedIn f) after4 n (if-right one (Closed (rowNo b0)) n (λ e. (exactly e, tt)))
-    (if-kind (eqb k 5) (lostIn f) after5 n (if-right one (Lost (farmNo b0)) n (λ e. (exactly e, tt)))
-    (if-kind (eqb k 6) (emptyIn f Tick) after6 n (if-right (eqb n 0) Tick n (λ e. (omega arith, tt)))
-    (if-kind (eqb k 7) (datagramIn f) after7 n (if-right (leb 1 n) (Datagram (farmNo b0)) n (λ e. (leb-true 1 n e, tt)))
-    (if-kind (eqb k 8) (controllerIn f) after8 n (if-right (leb 5 n) (Controller (farmNo b0) (u16At f 1) (u16At f 3)) n (λ e. (leb-true 5 n e, tt)))
+    (if-kind (eqb k 1) (emptyIn f Start) after1 n (if-right (eqb n 0) (Made Start) n (λ e. (omega arith, tt)))
+    (if-kind (eqb k 2) (connectIn f) after2 n (if-right one (Made (Connect (farmNo b0))) n (λ e. (exactly e, tt)))
+    (if-kind (eqb k 3) (bytesIn f) after3 n (if-right (leb 1 n) (Made (Bytes (rowNo b0))) n (λ e. (leb-true 1 n e, tt)))
+    (if-kind (eqb k 4) (closedIn f) after4 n (if-right one (Made (Closed (rowNo b0))) n (λ e. (exactly e, tt)))
+    (if-kind (eqb k 5) (lostIn f) after5 n (if-right one (Made (Lost (farmNo b0))) n (λ e. (exactly e, tt)))
+    (if-kind (eqb k 6) (emptyIn f Tick) after6 n (if-right (eqb n 0) (Made Tick) n (λ e. (omega arith, tt)))
+    (if-kind (eqb k 7) (datagramIn f) after7 n (if-right (leb 1 n) (Made (Datagram (farmNo b0))) n (λ e. (leb-true 1 n e, tt)))
+    (if-kind (eqb k 8) (controllerIn f) after8 n (if-right (leb 5 n) (Made (Controller (farmNo b0) (u16At f 1) (u16At f 3))) n (λ e. (leb-true 5 n e, tt)))
     (if-kind (eqb k 9) (roomsIn f) after9 n (among-rooms n (u32At f 0) (u32At f 4))
     (if-kind (eqb k 10) (damageIn f) after10 n (if-right (leb 2 n) (Damage (u16At f 0)) n (λ e. (leb-true 2 n e, tt)))
     tt))))))))))

@@ -8,7 +8,7 @@ use Rattle.octets.specs.Choice.{pick}
 use Rattle.octets.specs.Numbers.{u16At}
 use Rattle.octets.specs.Parts.{part}
 use Rattle.day.specs.declared.records.Record.{Record}
-use Rattle.day.specs.declared.records.Record.the-variants.{Sheet, Start, Connect, Bytes, Closed, Lost, Tick, Datagram, Controller, Rooms, Damage}
+use Rattle.day.specs.declared.records.Record.the-variants.{Made, Sheet, Rooms, Damage}
 use Rattle.day.specs.declared.records.Read.{Read}
 use Rattle.day.specs.declared.records.Read.the-variants as read
 use Rattle.day.specs.declared.records.Next.{Next}
@@ -39,15 +39,8 @@ nextAt s at =
 
 -- "each at most 65,536"
 abbrev pub RoomsFit : Record → Type 0
+RoomsFit (Made c) = Unit {0}
 RoomsFit Sheet = Unit {0}
-RoomsFit Start = Unit {0}
-RoomsFit (Connect f) = Unit {0}
-RoomsFit (Bytes r) = Unit {0}
-RoomsFit (Closed r) = Unit {0}
-RoomsFit (Lost f) = Unit {0}
-RoomsFit Tick = Unit {0}
-RoomsFit (Datagram f) = Unit {0}
-RoomsFit (Controller f c t) = Unit {0}
 RoomsFit (Rooms o a) = (o ≤ mostRoom) × (a ≤ mostRoom)
 RoomsFit (Damage p) = Unit {0}
 

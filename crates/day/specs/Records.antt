@@ -9,8 +9,10 @@ use Rattle.octets.specs.Choice.{pick}
 use Rattle.octets.specs.Numbers.{u16At, u32At}
 use Rattle.kinds.specs.declared.FarmNo.{FarmNo}
 use Rattle.kinds.specs.declared.RowNo.{RowNo}
+use Rattle.day.specs.declared.records.Call.{Call}
+use Rattle.day.specs.declared.records.Call.the-variants.{Start, Connect, Bytes, Closed, Lost, Tick, Datagram, Controller}
 use Rattle.day.specs.declared.records.Record.{Record}
-use Rattle.day.specs.declared.records.Record.the-variants.{Sheet, Start, Connect, Bytes, Closed, Lost, Tick, Datagram, Controller, Rooms, Damage}
+use Rattle.day.specs.declared.records.Record.the-variants.{Made, Sheet, Rooms, Damage}
 use Rattle.day.specs.declared.records.Read.{Read}
 use Rattle.day.specs.declared.records.Read.the-variants.{Is, Bad}
 
@@ -30,32 +32,32 @@ abbrev pub sheetIn : List ℕ → Read
 sheetIn f = Is Sheet
 
 -- "| 1 | start | none |", "| 6 | tick | none |"
-abbrev pub emptyIn : List ℕ → Record → Read
-emptyIn f r = ifRight (eqb (length f) 0) r
+abbrev pub emptyIn : List ℕ → Call → Read
+emptyIn f c = ifRight (eqb (length f) 0) (Made c)
 
 -- "| 2 | connect | farm u8 |"
 abbrev pub connectIn : List ℕ → Read
-connectIn f = ifRight (eqb (length f) 1) (Connect (farmNo (getD f 0 0)))
+connectIn f = ifRight (eqb (length f) 1) (Made (Connect (farmNo (getD f 0 0))))
 
 -- "| 3 | bytes | row u8, bytes (perhaps none) |"
 abbrev pub bytesIn : List ℕ → Read
-bytesIn f = ifRight (leb 1 (length f)) (Bytes (rowNo (getD f 0 0)))
+bytesIn f = ifRight (leb 1 (length f)) (Made (Bytes (rowNo (getD f 0 0))))
 
 -- "| 4 | closed | row u8 |"
 abbrev pub closedIn : List ℕ → Read
-closedIn f = ifRight (eqb (length f) 1) (Closed (rowNo (getD f 0 0)))
+closedIn f = ifRight (eqb (length f) 1) (Made (Closed (rowNo (getD f 0 0))))
 
 -- "| 5 | lost | farm u8 |"
 abbrev pub lostIn : List ℕ → Read
-lostIn f = ifRight (eqb (length f) 1) (Lost (farmNo (getD f 0 0)))
+lostIn f = ifRight (eqb (length f) 1) (Made (Lost (farmNo (getD f 0 0))))
 
 -- "| 7 | datagram | farm u8, bytes (perhaps none) |"
 abbrev pub datagramIn : List ℕ → Read
-datagramIn f = ifRight (leb 1 (length f)) (Datagram (farmNo (getD f 0 0)))
+datagramIn f = ifRight (leb 1 (length f)) (Made (Datagram (farmNo (getD f 0 0))))
 
 -- "| 8 | controller | farm u8, controller u16, tester u16, user data (perhaps none) |"
 abbrev pub controllerIn : List ℕ → Read
-controllerIn f = ifRight (leb 5 (length f)) (Controller (farmNo (getD f 0 0)) (u16At f 1) (u16At f 3))
+controllerIn f = ifRight (leb 5 (length f)) (Made (Controller (farmNo (getD f 0 0)) (u16At f 1) (u16At f 3)))
 
 -- "| 9 | rooms | output length u32, assembling length u32, each at most 65,536 |"
 abbrev pub mostRoom : ℕ
@@ -90,15 +92,18 @@ abbrev pub recordIn : List ℕ → Read
 recordIn b = recordOf (getD b 0 0) (drop 1 b)
 
 -- the bytes of the fields that have a length of their own: all but the bytes that a record ends in
+abbrev pub fixedOfCall : Call → ℕ
+fixedOfCall Start = 0
+fixedOfCall (Connect f) = 1
+fixedOfCall (Bytes r) = 1
+fixedOfCall (Closed r) = 1
+fixedOfCall (Lost f) = 1
+fixedOfCall Tick = 0
+fixedOfCall (Datagram f) = 1
+fixedOfCall (Controller f c t) = 5
+
 abbrev pub fixedOf : Record → ℕ
+fixedOf (Made c) = fixedOfCall c
 fixedOf Sheet = 0
-fixedOf Start = 0
-fixedOf (Connect f) = 1
-fixedOf (Bytes r) = 1
-fixedOf (Closed r) = 1
-fixedOf (Lost f) = 1
-fixedOf Tick = 0
-fixedOf (Datagram f) = 1
-fixedOf (Controller f c t) = 5
 fixedOf (Rooms o a) = 8
 fixedOf (Damage p) = 2

@@ -2,14 +2,13 @@
 ghost use mathlib.Core.Path.{_≡_};
 ghost use Prim.Native.Nat.{_≤_};
 ghost use lib.ListN.{length};
-ghost use Rattle.day.specs.Records.{fixedOf, connectIn, bytesIn, closedIn, lostIn, datagramIn, controllerIn, roomsIn, damageIn, emptyIn, recordOf, recordIn};
+ghost use Rattle.day.specs.Records.{fixedOfCall, fixedOf, connectIn, bytesIn, closedIn, lostIn, datagramIn, controllerIn, roomsIn, damageIn, emptyIn, recordOf, recordIn};
 ghost use Rattle.day.specs.Next.{nextAt, Lies};
 use kinds::FarmNo;
 use kinds::RowNo;
 
-// A record with its fields. The bytes that some end in are not held here: they are the record's last, after its fixed fields.
-pub enum Record {
-    Sheet,
+// A call with its fields. The bytes that some end in are not held here: they are the record's last, after its fixed fields.
+pub enum Call {
     Start,
     Connect(FarmNo),
     Bytes(RowNo),
@@ -17,8 +16,17 @@ pub enum Record {
     Lost(FarmNo),
     Tick,
     Datagram(FarmNo),
+    // controller, tester
     Controller(FarmNo, u16, u16),
+}
+
+// A record: a call as the host made it, or what is lent to the calls that follow.
+pub enum Record {
+    Made(Call),
+    Sheet,
+    // output, assembling
     Rooms(u32, u32),
+    // place
     Damage(u16),
 }
 
@@ -51,30 +59,38 @@ const MOST: usize = 32767;
 const MOST_ROOM: u32 = 65536;
 
 // How many bytes the fixed fields take.
+fn call_size(c: Call) -> usize
+    ensures { λ n. ⌜ n ≡ fixedOfCall c ⌝ }
+{
+    match c {
+        Call::Start => 0,
+        Call::Connect(_) => 1,
+        Call::Bytes(_) => 1,
+        Call::Closed(_) => 1,
+        Call::Lost(_) => 1,
+        Call::Tick => 0,
+        Call::Datagram(_) => 1,
+        Call::Controller(_, _, _) => 5,
+    }
+}
+
 fn fixed_size(r: Record) -> usize
     ensures { λ n. ⌜ n ≡ fixedOf r ⌝ }
 {
     match r {
+        Record::Made(c) => call_size(c),
         Record::Sheet => 0,
-        Record::Start => 0,
-        Record::Connect(_) => 1,
-        Record::Bytes(_) => 1,
-        Record::Closed(_) => 1,
-        Record::Lost(_) => 1,
-        Record::Tick => 0,
-        Record::Datagram(_) => 1,
-        Record::Controller(_, _, _) => 5,
         Record::Rooms(_, _) => 8,
         Record::Damage(_) => 2,
     }
 }
 
-// A record of no fields.
-fn empty_in(f: &[u8], r: Record) -> Read
-    ensures { λ z. ⌜ z ≡ emptyIn (now (f .entry)) r ⌝ }
+// A call of no fields.
+fn empty_in(f: &[u8], c: Call) -> Read
+    ensures { λ z. ⌜ z ≡ emptyIn (now (f .entry)) c ⌝ }
 {
     if f.len() == 0 {
-        return Read::Is(r);
+        return Read::Is(Record::Made(c));
     }
     Read::Bad
 }
@@ -83,7 +99,7 @@ fn connect_in(f: &[u8]) -> Read
     ensures { λ z. ⌜ z ≡ connectIn (now (f .entry)) ⌝ }
 {
     if f.len() == 1 {
-        return Read::Is(Record::Connect(FarmNo(f[0])));
+        return Read::Is(Record::Made(Call::Connect(FarmNo(f[0]))));
     }
     Read::Bad
 }
@@ -92,7 +108,7 @@ fn bytes_in(f: &[u8]) -> Read
     ensures { λ z. ⌜ z ≡ bytesIn (now (f .entry)) ⌝ }
 {
     if 1 <= f.len() {
-        return Read::Is(Record::Bytes(RowNo(f[0])));
+        return Read::Is(Record::Made(Call::Bytes(RowNo(f[0]))));
     }
     Read::Bad
 }
@@ -101,7 +117,7 @@ fn closed_in(f: &[u8]) -> Read
     ensures { λ z. ⌜ z ≡ closedIn (now (f .entry)) ⌝ }
 {
     if f.len() == 1 {
-        return Read::Is(Record::Closed(RowNo(f[0])));
+        return Read::Is(Record::Made(Call::Closed(RowNo(f[0]))));
     }
     Read::Bad
 }
@@ -110,7 +126,7 @@ fn lost_in(f: &[u8]) -> Read
     ensures { λ z. ⌜ z ≡ lostIn (now (f .entry)) ⌝ }
 {
     if f.len() == 1 {
-        return Read::Is(Record::Lost(FarmNo(f[0])));
+        return Read::Is(Record::Made(Call::Lost(FarmNo(f[0]))));
     }
     Read::Bad
 }
@@ -119,7 +135,7 @@ fn datagram_in(f: &[u8]) -> Read
     ensures { λ z. ⌜ z ≡ datagramIn (now (f .entry)) ⌝ }
 {
     if 1 <= f.len() {
-        return Read::Is(Record::Datagram(FarmNo(f[0])));
+        return Read::Is(Record::Made(Call::Datagram(FarmNo(f[0]))));
     }
     Read::Bad
 }
@@ -130,7 +146,7 @@ fn controller_in(f: &[u8]) -> Read
     if 5 <= f.len() {
         let controller = octets::read16(f, 1);
         let tester = octets::read16(f, 3);
-        return Read::Is(Record::Controller(FarmNo(f[0]), controller, tester));
+        return Read::Is(Record::Made(Call::Controller(FarmNo(f[0]), controller, tester)));
     }
     Read::Bad
 }
@@ -169,7 +185,7 @@ fn record_of(kind: u8, f: &[u8]) -> Read
         return Read::Is(Record::Sheet);
     }
     if kind == 1 {
-        return empty_in(f, Record::Start);
+        return empty_in(f, Call::Start);
     }
     if kind == 2 {
         return connect_in(f);
@@ -184,7 +200,7 @@ fn record_of(kind: u8, f: &[u8]) -> Read
         return lost_in(f);
     }
     if kind == 6 {
-        return empty_in(f, Record::Tick);
+        return empty_in(f, Call::Tick);
     }
     if kind == 7 {
         return datagram_in(f);
