@@ -10,7 +10,7 @@ use Rattle.octets.specs.Choice.{pick}
 use Rattle.day.specs.declared.lines.Ending.{Ending}
 use Rattle.day.specs.declared.lines.Ending.the-variants.{End, Cut, Bad}
 use Rattle.day.specs.Text.{decimal, hex}
-use Rattle.day.specs.Lines.{blank, countsText, sheetText, lastWord, mostCounts, mostLastLine}
+use Rattle.day.specs.Lines.{blank, newline, countsText, sheetText, answerLine, farmWord, takenWord, finishedWord, lostWord, farmLine, lastWord, lastLine, mostCounts, mostFarmLine, mostLastLine}
 use Rattle.day.proofs.TextLaws.{length-decimal, length-hex}
 
 pub length-counts : (number row taken : ℕ) → length (countsText number row taken) ≤ mostCounts
@@ -40,3 +40,32 @@ pub length-last : (e : Ending) → length (lastWord e) ≤ mostLastLine
 length-last (End n) = omega (arith, length-decimal n)
 length-last (Cut n) = omega (arith, length-decimal n)
 length-last (Bad n) = omega (arith, length-decimal n)
+
+pub length-answer : (number row taken : ℕ) (sheet : List ℕ) → length (answerLine number row taken sheet) ≤ mostCounts + (2 * length sheet + 2)
+unfolding answerLine
+length-answer number row taken sheet =
+    let a : List ℕ = countsText number row taken in
+    let b : List ℕ = sheetText number sheet in
+    omega (arith, length-append (a ++ b) newline, length-append a b, length-counts number row taken, length-sheet number sheet)
+
+pub length-farm : (f taken finished lost : ℕ) → length (farmLine f taken finished lost) ≤ mostFarmLine
+unfolding farmLine
+length-farm f taken finished lost =
+    let a : List ℕ = farmWord ++ decimal f in
+    let b : List ℕ = takenWord ++ decimal taken in
+    let c : List ℕ = finishedWord ++ decimal finished in
+    let d : List ℕ = lostWord ++ decimal lost in
+    omega (
+      arith,
+      length-append (a ++ b ++ c ++ d) newline,
+      length-append (a ++ b ++ c) d,
+      length-append (a ++ b) c,
+      length-append a b,
+      length-decimal f,
+      length-decimal taken,
+      length-decimal finished,
+      length-decimal lost,
+    )
+
+pub length-last-line : (e : Ending) → length (lastLine e) ≤ mostLastLine + 1
+length-last-line e = omega (arith, length-append (lastWord e) newline, length-last e)

@@ -112,7 +112,7 @@ fn is_going(s: Stand) -> bool {
 }
 
 // Each whole record among the bytes in hand. No record is empty, so there are fewer than bytes.
-fn walk(
+fn walk_all(
     s: &[u8],
     run: Run,
     sheet: &mut [u8],
@@ -156,11 +156,12 @@ fn stopped(r: Turn) -> Turn
     requires { ⌜ Kept (r .run) ⌝ }
     ensures { λ z. ⌜ (z .have ≡ 0) × Kept (z .run) ⌝ }
 {
+    let run = r.run;
     Turn {
         base: r.base,
         have: 0,
         going: false,
-        run: r.run,
+        run,
     }
 }
 
@@ -179,7 +180,7 @@ fn carry(
     ensures { λ z. ⌜ (z .have ≤ length (now (buf .entry))) × Kept (z .run) ⌝ }
 {
     let run = r.run;
-    let w = walk(&buf[..n], run, sheet, t, out, m, text);
+    let w = walk_all(&buf[..n], run, sheet, t, out, m, text);
     let at = w.at;
     let base = std::num::wrapping_add_usize(r.base, at);
     let after = w.run;
@@ -212,7 +213,7 @@ fn ending(r: Turn) -> Ending {
 }
 
 // One read and what it completes.
-fn turn(
+fn read_on(
     fd: i32,
     path: &[u8],
     buf: &mut [u8],
@@ -275,7 +276,7 @@ pub fn play(fd: i32, path: &[u8]) {
         if !r.going {
             return;
         }
-        r = turn(fd, path, buf, r, sheet, t, out, m, text);
+        r = read_on(fd, path, buf, r, sheet, t, out, m, text);
         turns -= 1;
     }
 }

@@ -126,9 +126,9 @@ fn lend_rooms(output: u32, assembling: u32, run: Run) -> Run
     }
 }
 
-// A record; rest are the bytes that it ends in.
+// A record, it; rest are the bytes that it ends in.
 pub fn carry_out(
-    record: Record,
+    it: Record,
     rest: &[u8],
     run: Run,
     sheet: &mut [u8],
@@ -137,10 +137,10 @@ pub fn carry_out(
     m: &mut [u8],
     text: &mut [u8],
 ) -> Run
-    requires { ⌜ Kept run × RoomsFit record × (length (now rest) ≤ spaceSize) × (length (now sheet) ≡ spaceSize) × (length (now out) ≡ spaceSize) × (length (now m) ≡ spaceSize) × (length (now text) ≡ textSize) ⌝ }
+    requires { ⌜ Kept run × RoomsFit it × (length (now rest) ≤ spaceSize) × (length (now sheet) ≡ spaceSize) × (length (now out) ≡ spaceSize) × (length (now m) ≡ spaceSize) × (length (now text) ≡ textSize) ⌝ }
     ensures { λ r. ⌜ Kept r ⌝ }
 {
-    match record {
+    match it {
         Record::Made(call) => answer(call, rest, run, sheet, t, out, m, text),
         Record::Sheet => lend_sheet(sheet, rest, run),
         Record::Rooms(o, a) => lend_rooms(o, a, run),
