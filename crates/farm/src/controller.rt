@@ -23,10 +23,10 @@ const MOST_USER: usize = 2044;
 fn size_fits(n: usize) -> bool
     ensures { λ r. ⌜ r ≡ sizeFits n ⌝ }
 {
-    if n == 0 {
-        return false;
+    if 0 < n {
+        return n <= MOST_USER;
     }
-    n <= MOST_USER
+    false
 }
 
 // "controller address not a target of that farm": one that is not reachable is a target too.

@@ -112,7 +112,7 @@ module _ (s t out m : List ℕ) (p : Passed s t out m) (long : length t ≡ tabl
         past = refl;
       }
 
-  movedDid : ℕ → Done → Did
+  abbrev movedDid : ℕ → Done → Did
   movedDid f d =
       record {
         row = noRow;

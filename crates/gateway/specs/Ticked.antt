@@ -35,9 +35,10 @@ pub record Farms (s t : List ℕ) (n : ℕ) (after : List ℕ) : Type 0 where
   pub rest : (f : ℕ) → n ≤ f → block after f ≡ block t f
   pub long : length after ≡ tableSize
 
-pub record TickedAll (s t plan after : List ℕ) : Type 0 where
-  pub farms : Farms s t (farmCount s) after
-  pub said : itemsOf plan ≡ pushedAll [] (ticksTo s t (farmCount s))
+-- and the plan says their entries, one farm's behind the other's
+pub record TickedTo (s t : List ℕ) (n : ℕ) (plan after : List ℕ) : Type 0 where
+  pub farms : Farms s t n after
+  pub said : itemsOf plan ≡ pushedAll [] (ticksTo s t n)
   pub ok : PlanOk plan
 
 pub record TickedOut (s t out after output : List ℕ) (a : Answer) : Type 0 where

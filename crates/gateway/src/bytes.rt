@@ -31,7 +31,7 @@ use table::TABLE;
 // "2,048 for each of 16 rows"
 const ROOM: usize = 2048;
 
-// The farm's block and the row's room are lent alone.
+// The farm's block and the row's room are lent alone: "stored at its place in its row's 2,048; nothing else there ever changes".
 fn bytes_at(
     t: &mut [u8],
     p: &mut [u8],
@@ -52,6 +52,7 @@ fn bytes_at(
     farm::bytes::bytes(&mut t[a..e], p, &mut m[c..d], s, f, site, seat, input)
 }
 
+// The payload that is handed on is still in the row's room: the output sheet is written from there.
 fn take(
     s: &[u8],
     t: &mut [u8],
@@ -74,6 +75,7 @@ fn take(
     answer::finish(out, p, &m[a..e], answer::NO_ROW, heard.count)
 }
 
+// Refusals "6 | row not open" and "7 | bytes for a waiting row, even none", then the bytes are taken.
 pub fn bytes(
     s: &[u8],
     t: &mut [u8; TABLE],

@@ -3,7 +3,7 @@ ghost use mathlib.Core.Path.{_≡_};
 ghost use mathlib.Core.List.{[]};
 ghost use Prim.Native.Nat.{_<_, _≤_};
 ghost use lib.ListN.{length};
-ghost use Rattle.sheet.specs.Sheet.{mostFarms};
+ghost use Rattle.sheet.specs.Sheet.{mostFarms, farmCount};
 ghost use Rattle.model.specs.Move.{ticked};
 ghost use Rattle.model.specs.Table.{tick};
 ghost use Rattle.outsheet.specs.Plan.{PlanOk, Said};
@@ -15,7 +15,7 @@ ghost use Rattle.lent.specs.Lent.{block, lentStep};
 ghost use Rattle.lent.specs.Served.{memory, Served};
 ghost use Rattle.gateway.specs.Ready.{AllReady};
 ghost use Rattle.gateway.specs.Moved.{DidAt};
-ghost use Rattle.gateway.specs.Ticked.{TickedAll, TickedOut};
+ghost use Rattle.gateway.specs.Ticked.{TickedTo, TickedOut};
 use crate::answer;
 use crate::gate;
 use kinds::FarmNo;
@@ -40,7 +40,7 @@ fn tick_at(t: &mut [u8], p: &mut [u8], f: usize, site: Site)
 // The farms of the sheet, one after the other.
 fn tick_farms(s: &[u8], t: &mut [u8], p: &mut [u8])
     requires { ⌜ AllReady (now s) (now t) × Said (now p) [] ⌝ }
-    ensures { λ _. ⌜ TickedAll (now (s .entry)) (now (t .entry)) (now (p .exit)) (now (t .exit)) ⌝ }
+    ensures { λ _. ⌜ TickedTo (now (s .entry)) (now (t .entry)) (farmCount (now (s .entry))) (now (p .exit)) (now (t .exit)) ⌝ }
 {
     let n = head::farm_count(s);
     let mut i: usize = 0;

@@ -2,14 +2,14 @@
 -- Assumes nothing.
 use Prim.Native.Nat.{ℕ}
 use mathlib.Core.Path.{_≡_, refl, sym, ap, _∙_}
-use mathlib.Core.Bool.{true, false}
+use mathlib.Core.Bool.{Bool, true, false}
 use mathlib.Core.List.{List, [], _∷_}
 use borrow.Author.Tests.{eq-eqb, ne-eqb}
 use Rattle.kinds.specs.declared.Item.{Item}
-use Rattle.kinds.specs.declared.Reply.the-variants.{Ack, DiagnosticNack, HandOn, Nack}
+use Rattle.kinds.specs.declared.Reply.{Reply}
+use Rattle.kinds.specs.declared.Reply.the-variants.{Ack, DiagnosticNack, HandOn}
 use Rattle.kinds.specs.declared.Fault.{Fault}
 use Rattle.wire.specs.declared.payload.Ends.{Ends}
-use Rattle.wire.specs.Header.{codeOf, closes}
 use Rattle.sheet.specs.declared.find.Known.{Known}
 use Rattle.sheet.specs.declared.find.Found.the-variants.{Is, Nobody}
 use Rattle.sheet.specs.Sheet.{targetsOf}
@@ -21,7 +21,7 @@ use Rattle.model.specs.Bytes.{toTarget, diagnosed, faulted}
 use Rattle.model.proofs.SameSite.{SameSite}
 use Rattle.outsheet.specs.Plan.{pushedTo}
 use Rattle.rowwork.specs.Did.{pushedAll}
-use Rattle.messages.specs.Codes.{targetCode, repliesBy}
+use Rattle.messages.specs.Codes.{targetCode, repliesBy, refusedBy}
 
 -- ---- the target
 
@@ -75,7 +75,7 @@ module _ (a b : FarmSheet) (same : SameSite a b) (seat : ℕ) where
         ap (does f) (replies-same e code ∙ ap (repliesBy b seat e) c) ∙ sym (to-target b seat e (b .target (e .target)) f) ∙ rw h refl
 
     pub diagnosed-stranger : activeAs (e .source) (rowAt (f .rows) seat) ≡ false
-        → andThen (does f (says a seat (DiagnosticNack (e .target) (e .source) 0x02) ∷ [])) (closed a seat) ≡ diagnosed b seat e f
+        → refusedBy a seat (DiagnosticNack (e .target) (e .source) 0x02) true f ≡ diagnosed b seat e f
     unfolding diagnosed andThen closed
     diagnosed-stranger h = rw (h, same .first) refl
 
@@ -85,9 +85,11 @@ module _ (a b : FarmSheet) (same : SameSite a b) (seat : ℕ) where
   unfolding andThen closed
   faulted-same fault f = rw (same .first) refl
 
-module _ (own : FarmSheet) (seat : ℕ) (fault : Fault) (f : Farm) where
-  pub faulted-closes : closes fault ≡ true → andThen (does f (says own seat (Nack (codeOf fault)) ∷ [])) (closed own seat) ≡ faulted own seat fault f
-  faulted-closes e = rw e refl
+-- ---- an answer that may close the row
 
-  pub faulted-skips : closes fault ≡ false → does f (says own seat (Nack (codeOf fault)) ∷ []) ≡ faulted own seat fault f
-  faulted-skips e = rw e refl
+module _ (own : FarmSheet) (seat : ℕ) (reply : Reply) (closes : Bool) (f : Farm) where
+  pub refused-closes : closes ≡ true → andThen (does f (says own seat reply ∷ [])) (closed own seat) ≡ refusedBy own seat reply closes f
+  refused-closes e = rw e refl
+
+  pub refused-stays : closes ≡ false → does f (says own seat reply ∷ []) ≡ refusedBy own seat reply closes f
+  refused-stays e = rw e refl

@@ -1,11 +1,11 @@
 -- Document 01's order for a request, a rule at a time; and what is done by it looks at three numbers of the sheet only.
 -- Assumes nothing.
-use Prim.Native.Nat.{ℕ, _≤_, _<_}
+use Prim.Native.Nat.{ℕ}
 use mathlib.Core.Path.{_≡_, refl, sym, ap, _∙_}
 use mathlib.Core.Bool.{Bool, true, false}
 use mathlib.Core.List.{List}
-use lib.Dec.{eqb}
-use borrow.Author.Tests.{eq-eqb, ne-eqb, le-leb, lt-leb}
+use lib.Dec.{eqb, leb}
+use borrow.Author.Tests.{eq-eqb, ne-eqb}
 use Rattle.kinds.specs.declared.Clock.{Clock}
 use Rattle.kinds.specs.declared.Request.{Request}
 use Rattle.kinds.specs.declared.RowState.{RowState}
@@ -51,18 +51,18 @@ module _ (s : List ℕ) (f : ℕ) (rows : List Row) (seat : ℕ) (q : Request) w
   decide-nobody e = rw e refl
 
   module _ {k : Known} (e : lookup (q .address) (testersOf s) ≡ Is k) where
-    pub decide-other : (k .farm .0 ≡ f → ⊥) → Now 0x00 ≡ decide (farmSheet s f) rows seat q
+    pub decide-other : eqb (k .farm .0) f ≡ false → Now 0x00 ≡ decide (farmSheet s f) rows seat q
     unfolding decide farmSheet
-    decide-other n = rw (e, ne-eqb (k .farm .0) f n) refl
+    decide-other n = rw (e, n) refl
 
-    pub decide-type : k .farm .0 ≡ f → 1 < q .kind → Now 0x06 ≡ decide (farmSheet s f) rows seat q
+    pub decide-type : eqb (k .farm .0) f ≡ true → leb (q .kind) 1 ≡ false → Now 0x06 ≡ decide (farmSheet s f) rows seat q
     unfolding decide farmSheet
-    decide-type o h = rw (e, eq-eqb (k .farm .0) f o, lt-leb (q .kind) 1 h) refl
+    decide-type o h = rw (e, o, h) refl
 
-    pub decide-state : k .farm .0 ≡ f → q .kind ≤ 1
+    pub decide-state : eqb (k .farm .0) f ≡ true → leb (q .kind) 1 ≡ true
         → byState (farmSheet s f) rows (q .address) (rowAt rows seat .state) ≡ decide (farmSheet s f) rows seat q
     unfolding decide farmSheet
-    decide-state o h = rw (e, eq-eqb (k .farm .0) f o, le-leb (q .kind) 1 h) refl
+    decide-state o h = rw (e, o, h) refl
 
 -- ---- three numbers
 

@@ -10,10 +10,10 @@ ghost use Rattle.table.specs.Block.{farmOf, Whole};
 ghost use Rattle.rowwork.specs.Did.{siteSheet, RowsFit, pushedAll, Did};
 ghost use Rattle.site.specs.Site.{Sited};
 ghost use Rattle.messages.specs.Codes.{targetCode, repliesBy};
+use crate::refuse;
 use kinds::FarmNo;
 use kinds::Reply;
 use kinds::Site;
-use rowwork::close;
 use rowwork::decide;
 use rowwork::say;
 use sheet::find;
@@ -78,11 +78,6 @@ pub fn diagnose(b: &mut [u8], p: &mut [u8], s: &[u8], f: FarmNo, site: Site, sea
         reply(p, site, seat, e, code);
         return;
     }
-    say::say(
-        p,
-        site,
-        seat,
-        Reply::DiagnosticNack(e.target, e.source, WRONG_SOURCE),
-    );
-    close::close(b, p, site, seat);
+    let nack = Reply::DiagnosticNack(e.target, e.source, WRONG_SOURCE);
+    refuse::refuse(b, p, site, seat, nack, true);
 }

@@ -5,11 +5,10 @@ ghost use Rattle.outsheet.specs.Plan.{PlanOk};
 ghost use Rattle.table.specs.Layout.{seats};
 ghost use Rattle.table.specs.Block.{farmOf, Whole};
 ghost use Rattle.rowwork.specs.Did.{siteSheet, RowsFit, Did};
+use crate::refuse;
 use kinds::Fault;
 use kinds::Reply;
 use kinds::Site;
-use rowwork::close;
-use rowwork::say;
 use wire::header;
 
 // Its NACK, and the close where the fault closes.
@@ -17,8 +16,12 @@ pub fn fault(b: &mut [u8], p: &mut [u8], site: Site, seat: usize, fault: Fault)
     requires { ⌜ (seat < seats) × RowsFit site × Whole (now b) × PlanOk (now p) ⌝ }
     ensures { λ _. ⌜ Did (now (p .entry)) (now (b .exit)) (now (p .exit)) (faulted (siteSheet site) seat fault (farmOf (now (b .entry)))) ⌝ }
 {
-    say::say(p, site, seat, Reply::Nack(header::code_of(fault)));
-    if header::closes_row(fault) {
-        close::close(b, p, site, seat);
-    }
+    refuse::refuse(
+        b,
+        p,
+        site,
+        seat,
+        Reply::Nack(header::code_of(fault)),
+        header::closes_row(fault),
+    );
 }

@@ -60,13 +60,15 @@ fn decision(b: &[u8], s: &[u8], f: FarmNo, site: Site, seat: usize, q: Request) 
     ensures { λ r. ⌜ r ≡ decide (farmSheet (now (s .entry)) (f .0)) (farmOf (now (b .entry)) .rows) seat q ⌝ }
 {
     let Found::Is(k) = find::find_tester(s, q.address) else {
-        return Decision::Now(NO_TESTER);
+        return Decision::Now(NO_TESTER); // nobody's
     };
     let owner = k.farm;
-    if owner.0 != f.0 {
-        return Decision::Now(NO_TESTER);
+    let ours = owner.0 == f.0;
+    let right_type = q.kind <= 1;
+    if !ours {
+        return Decision::Now(NO_TESTER); // another farm's
     }
-    if 1 < q.kind {
+    if !right_type {
         return Decision::Now(WRONG_TYPE);
     }
     by_state(b, site, seat, q.address)

@@ -59,7 +59,7 @@ fn make(
         Call::Closed(row) => gateway::closed::peer_closed(s, t, out, m, row),
         Call::Lost(f) => gateway::closed::link_lost(s, t, out, m, f),
         Call::Tick => gateway::tick::tick(s, t, out, m),
-        Call::Datagram(f) => gateway::datagram::datagram(s, t, out, m, f, rest),
+        Call::Datagram(f) => gateway::datagrams::datagram(s, t, out, m, f, rest),
         Call::Controller(f, from, to) => {
             gateway::controller::controller_message(s, t, out, m, f, from, to, rest)
         }

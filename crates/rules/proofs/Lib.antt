@@ -1,3 +1,5 @@
 pub mod PlaceLaws
+pub mod OnceLaws
 pub mod SeatLaws
 pub mod FarmLaws
+pub mod TableLaws

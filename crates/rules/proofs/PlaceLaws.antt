@@ -1,11 +1,13 @@
 -- The loop over the header bytes that are not in hand.
 -- Assumes nothing.
 use Prim.Native.Nat.{ℕ, zero, suc, _+_, _-_, _≤_, _<_}
-use mathlib.Core.Path.{_≡_, refl, sym, ap, _∙_}
+use mathlib.Core.Path.{_≡_, sym, ap, _∙_}
 use mathlib.Core.Bool.{true, false}
-use mathlib.Core.List.{List, []}
+use mathlib.Core.List.{List}
 use native.Mathlib.Omega.{arith}
 use lib.ListN.{length, getD, drop, replicate, getD-replicate}
+use lib.Seq.{ext-getD}
+use Rattle.octets.specs.Numbers.{u32At}
 use Rattle.octets.specs.Search.{sameList}
 use Rattle.octets.proofs.SearchLaws.{same-next, same-differ, same-end}
 use Rattle.wire.specs.Header.{headerSize}
@@ -40,3 +42,20 @@ module _ (head : List ℕ) (eight : length head ≡ headerSize) (n i : ℕ) wher
 
   pub zeros-end : headerSize ≤ i → ZerosFrom head n i → sameList (drop n head) (zeros (headerSize - n)) ≡ true
   zeros-end h z = z ∙ same-end head (zeros headerSize) i (omega arith) (omega (arith, zeros-long))
+
+-- ---- the eight bytes as two numbers
+
+module _ (head : List ℕ) (eight : length head ≡ headerSize) where
+  pub two-zeros : u32At head 0 ≡ 0 → u32At head 4 ≡ 0 → head ≡ zeros headerSize
+  two-zeros e f = ext-getD 0 head (zeros headerSize) eight (λ i h. let k : i < headerSize = omega arith in each i k ∙ sym (getD-replicate headerSize i 0 0 k))
+    where
+      each : (i : ℕ) → i < headerSize → getD head i 0 ≡ 0
+      each zero h = omega arith
+      each (suc zero) h = omega arith
+      each (suc (suc zero)) h = omega arith
+      each (suc (suc (suc zero))) h = omega arith
+      each (suc (suc (suc (suc zero)))) h = omega arith
+      each (suc (suc (suc (suc (suc zero))))) h = omega arith
+      each (suc (suc (suc (suc (suc (suc zero)))))) h = omega arith
+      each (suc (suc (suc (suc (suc (suc (suc zero))))))) h = omega arith
+      each (suc (suc (suc (suc (suc (suc (suc (suc i)))))))) h = absurd (omega arith)

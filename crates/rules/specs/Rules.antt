@@ -1,13 +1,14 @@
 -- Rule 4 over the lent table: what a block is tested against, and the test of all blocks.
 -- Assumes nothing: these are definitions.
-use Prim.Native.Nat.{ℕ, _*_}
+use Prim.Native.Nat.{ℕ, _+_, _*_}
 use mathlib.Core.Bool.{Bool, true, not}
 use mathlib.Core.List.{List, []}
 use lib.Dec.{eqb, leb, ltb}
-use Rattle.octets.specs.Choice.{both}
+use lib.ListN.{drop}
+use Rattle.octets.specs.Choice.{both, either}
 use Rattle.octets.specs.Fold.{upTo}
 use Rattle.octets.specs.Parts.{part}
-use Rattle.octets.specs.Search.{countIf}
+use Rattle.octets.specs.Search.{some}
 use Rattle.kinds.specs.Clock.{initialLimit, generalLimit}
 use Rattle.kinds.specs.declared.Clock.{Clock}
 use Rattle.kinds.specs.declared.Request.{Request}
@@ -18,10 +19,11 @@ use Rattle.kinds.specs.declared.RowState.the-variants.{Free, Fresh, Waiting, Ac
 use Rattle.sheet.specs.Sheet.{testersOf, mostFarms}
 use Rattle.sheet.specs.Find.{lookup}
 use Rattle.model.specs.FarmSheet.{FarmSheet, stranger, testerBy, slotSheet}
-use Rattle.model.specs.Row.{activeAs}
+use Rattle.model.specs.Row.{rowAt, activeAs}
 use Rattle.model.specs.Farm.{Farm}
+use Rattle.model.specs.Line.{isMarked, isAsked}
 use Rattle.model.specs.Rule.{times}
-use Rattle.model.specs.RuleTest.{isBoundary, goodFarm}
+use Rattle.model.specs.RuleTest.{possibleAt, tidyAt, isBoundary, goodFarm}
 use Rattle.table.specs.Layout.{blockSize}
 use Rattle.table.specs.Block.{farmOf, wholeBlock}
 
@@ -43,7 +45,8 @@ ruleSheet s f site rows =
       names = [];
     }
 
--- ---- what a seat's test asks beside the row's place, its header bytes and the seat's mark, by the row's state (proofs/SeatLaws)
+-- ---- the test of a seat in the order of the code: what is asked of every row, then by the row's state. An active row is compared with
+-- the rows after it only, so that every two rows are compared once: over all seats that is rule 4's own test (proofs/SeatLaws)
 
 abbrev pub freeKeeps : Farm → ℕ → Place → Bool
 freeKeeps f i place = both (isBoundary place) (eqb (times i (f .line)) 0)
@@ -59,13 +62,20 @@ abbrev pub activeKeeps : (ℕ → Bool) → ℕ → Farm → ℕ → ℕ → Clo
 activeKeeps tester rows f i a idle =
     both (ltb i rows)
     (both (not (leb generalLimit (idle .ticks)))
-    (both (eqb (times i (f .line)) 0) (both (tester a) (leb (countIf (activeAs a) (f .rows)) 1))))
+    (both (eqb (times i (f .line)) 0) (both (tester a) (not (some (activeAs a) (drop (i + 1) (f .rows)))))))
 
 abbrev pub stateKeeps : (ℕ → Bool) → ℕ → Farm → ℕ → Place → RowState → Bool
 stateKeeps tester rows f i place Free = freeKeeps f i place
 stateKeeps tester rows f i place (Fresh age) = freshKeeps rows f i age
 stateKeeps tester rows f i place (Waiting q) = waitingKeeps tester rows f i place q
 stateKeeps tester rows f i place (Active a idle) = activeKeeps tester rows f i a idle
+
+unfoldable pub seatTest : FarmSheet → Farm → ℕ → Bool
+seatTest own f i =
+    both (possibleAt (rowAt (f .rows) i .place) (rowAt (f .rows) i .head))
+    (both (tidyAt (rowAt (f .rows) i .place) (rowAt (f .rows) i .head))
+    (both (either (not (isMarked (f .marks) i)) (isAsked own f i))
+    (stateKeeps (own .tester) (own .rows) f i (rowAt (f .rows) i .place) (rowAt (f .rows) i .state))))
 
 -- ---- blocks
 

@@ -1,7 +1,7 @@
 // "a stream place is impossible: eight header bytes or more still unjudged, a payload already complete, a payload being read whose header
 // would be judged wrong, or one being skipped whose header would not get NACK 01 or 02"
 ghost use mathlib.Core.Path.{_≡_};
-ghost use Prim.Native.Nat.{_-_, _≤_};
+ghost use Prim.Native.Nat.{_-_};
 ghost use lib.Dec.{ltb};
 ghost use lib.ListN.{length, drop, replicate};
 ghost use Rattle.octets.specs.Choice.{both};
@@ -12,6 +12,7 @@ use kinds::Fault;
 use kinds::Place;
 use kinds::Verdict;
 use wire::header;
+use wire::header::Header;
 
 const HEADER: usize = 8;
 
@@ -48,11 +49,17 @@ fn is_skipped(v: Verdict) -> bool
 
 // ---- a payload that is read or skipped: only here is the header judged again
 
+fn is_unfinished(h: Header, n: u32) -> bool
+    ensures { λ r. ⌜ r ≡ ltb n (h .length) ⌝ }
+{
+    n < h.length
+}
+
 fn reads(head: [u8; HEADER], n: u32) -> bool
     ensures { λ r. ⌜ r ≡ both (ltb n (headerAt head 0 .length)) (passes (verdictOf (headerAt head 0))) ⌝ }
 {
     let h = header::read(&head, 0);
-    if h.length <= n {
+    if !is_unfinished(h, n) {
         return false;
     }
     let v = header::judge(h);
@@ -63,7 +70,7 @@ fn skips(head: [u8; HEADER], n: u32) -> bool
     ensures { λ r. ⌜ r ≡ both (ltb n (headerAt head 0 .length)) (isSkipped (verdictOf (headerAt head 0))) ⌝ }
 {
     let h = header::read(&head, 0);
-    if h.length <= n {
+    if !is_unfinished(h, n) {
         return false;
     }
     let v = header::judge(h);
@@ -107,11 +114,30 @@ fn zeros_from(head: [u8; HEADER], n: usize) -> bool
     true
 }
 
+// Between two messages no byte is in hand, and most rows are there: the eight bytes as two numbers.
+fn none_in_hand(head: [u8; HEADER]) -> bool
+    ensures { λ r. ⌜ r ≡ sameList head (replicate headerSize 0) ⌝ }
+{
+    if octets::read32(&head, 0) != 0 {
+        return false;
+    }
+    octets::read32(&head, 4) == 0
+}
+
+fn rest_zero(head: [u8; HEADER], n: u8) -> bool
+    ensures { λ r. ⌜ r ≡ sameList (drop n head) (replicate (headerSize - n) 0) ⌝ }
+{
+    if n == 0 {
+        return none_in_hand(head);
+    }
+    zeros_from(head, octets::wide(n))
+}
+
 pub fn tidy(place: Place, head: [u8; HEADER]) -> bool
     ensures { λ r. ⌜ r ≡ tidyAt place head ⌝ }
 {
     match place {
-        Place::Header(n) => zeros_from(head, octets::wide(n)),
+        Place::Header(n) => rest_zero(head, n),
         Place::Reading(_) => true,
         Place::Skipping(_) => true,
     }

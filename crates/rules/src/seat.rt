@@ -1,19 +1,19 @@
 // One row, at its seat: all that is asked of it.
 ghost use mathlib.Core.Path.{_≡_};
 ghost use mathlib.Core.Bool.{not};
-ghost use Prim.Native.Nat.{_<_};
-ghost use lib.ListN.{length};
+ghost use Prim.Native.Nat.{_+_, _<_};
+ghost use lib.Dec.{ltb};
+ghost use lib.ListN.{length, drop};
 ghost use Rattle.octets.specs.Choice.{either};
-ghost use Rattle.octets.specs.Search.{countIf};
+ghost use Rattle.octets.specs.Search.{some};
 ghost use Rattle.sheet.specs.Rules.{GoodSheet};
 ghost use Rattle.model.specs.Row.{activeAs};
 ghost use Rattle.model.specs.Line.{isMarked, isAsked};
 ghost use Rattle.model.specs.Rule.{times};
-ghost use Rattle.model.specs.RuleTest.{seatKeeps};
 ghost use Rattle.table.specs.Layout.{seats, blockSize};
 ghost use Rattle.table.specs.Block.{farmOf};
 ghost use Rattle.rowwork.specs.Did.{siteSheet};
-ghost use Rattle.rules.specs.Rules.{testerIn, ruleSheet, freeKeeps, freshKeeps, waitingKeeps, activeKeeps, stateKeeps};
+ghost use Rattle.rules.specs.Rules.{testerIn, ruleSheet, freeKeeps, freshKeeps, waitingKeeps, activeKeeps, stateKeeps, seatTest};
 use crate::place;
 use kinds::Clock;
 use kinds::FarmNo;
@@ -55,18 +55,19 @@ fn times_in(b: &[u8], i: usize) -> usize
     sum
 }
 
-// How many rows are active with the address.
-fn count_as(b: &[u8], address: u16) -> usize
-    requires { ⌜ length (now b) ≡ blockSize ⌝ }
-    ensures { λ r. ⌜ r ≡ countIf (activeAs address) (farmOf (now (b .entry)) .rows) ⌝ }
+// "or is active twice": on a row after this one
+fn again_after(b: &[u8], i: usize, address: u16) -> bool
+    requires { ⌜ (i < seats) × (length (now b) ≡ blockSize) ⌝ }
+    ensures { λ r. ⌜ r ≡ some (activeAs address) (drop (i + 1) (farmOf (now (b .entry)) .rows)) ⌝ }
 {
-    let mut n: usize = 0;
-    for i in 0..SEATS {
-        if decide::active_as(b, i, address) {
-            n += 1;
+    let mut k = i + 1;
+    while k < SEATS {
+        if decide::active_as(b, k, address) {
+            return true;
         }
+        k += 1;
     }
-    n
+    false
 }
 
 // "a mark stands on a row not asked": looked at only where one stands
@@ -82,6 +83,13 @@ fn mark_keeps(b: &[u8], site: Site, i: usize) -> bool
 
 // ---- by the row's state
 
+// "a row beyond the sheet's rows is open"
+fn is_owned(rows: usize, i: usize) -> bool
+    ensures { λ r. ⌜ r ≡ ltb i rows ⌝ }
+{
+    i < rows
+}
+
 fn free_keeps(b: &[u8], i: usize, place: Place) -> bool
     requires { ⌜ length (now b) ≡ blockSize ⌝ }
     ensures { λ r. ⌜ r ≡ freeKeeps (farmOf (now (b .entry))) i place ⌝ }
@@ -92,12 +100,12 @@ fn free_keeps(b: &[u8], i: usize, place: Place) -> bool
     times_in(b, i) == 0
 }
 
-// "a row beyond the sheet's rows is open"; "An age is 200 or more"
+// "an age is 200 or more"
 fn fresh_keeps(b: &[u8], rows: usize, i: usize, age: Clock) -> bool
     requires { ⌜ length (now b) ≡ blockSize ⌝ }
     ensures { λ r. ⌜ r ≡ freshKeeps rows (farmOf (now (b .entry))) i age ⌝ }
 {
-    if rows <= i {
+    if !is_owned(rows, i) {
         return false;
     }
     if Clock::INITIAL <= age.ticks {
@@ -107,11 +115,19 @@ fn fresh_keeps(b: &[u8], rows: usize, i: usize, age: Clock) -> bool
 }
 
 // "a waiting row has bytes in hand, or its request would get 00 or 06"
-fn waiting_keeps(b: &[u8], s: &[u8], f: FarmNo, rows: usize, i: usize, place: Place, q: Request) -> bool
+fn waiting_keeps(
+    b: &[u8],
+    s: &[u8],
+    f: FarmNo,
+    rows: usize,
+    i: usize,
+    place: Place,
+    q: Request,
+) -> bool
     requires { ⌜ (length (now b) ≡ blockSize) × GoodSheet (now s) ⌝ }
     ensures { λ r. ⌜ r ≡ waitingKeeps (testerIn (now (s .entry)) (f .0)) rows (farmOf (now (b .entry))) i place q ⌝ }
 {
-    if rows <= i {
+    if !is_owned(rows, i) {
         return false;
     }
     if !place::is_boundary(place) {
@@ -127,11 +143,19 @@ fn waiting_keeps(b: &[u8], s: &[u8], f: FarmNo, rows: usize, i: usize, place: Pl
 }
 
 // "an active address isn't that farm's tester or is active twice", "an idle count 30,000 or more"
-fn active_keeps(b: &[u8], s: &[u8], f: FarmNo, rows: usize, i: usize, address: u16, idle: Clock) -> bool
-    requires { ⌜ (length (now b) ≡ blockSize) × GoodSheet (now s) ⌝ }
+fn active_keeps(
+    b: &[u8],
+    s: &[u8],
+    f: FarmNo,
+    rows: usize,
+    i: usize,
+    address: u16,
+    idle: Clock,
+) -> bool
+    requires { ⌜ (i < seats) × (length (now b) ≡ blockSize) × GoodSheet (now s) ⌝ }
     ensures { λ r. ⌜ r ≡ activeKeeps (testerIn (now (s .entry)) (f .0)) rows (farmOf (now (b .entry))) i address idle ⌝ }
 {
-    if rows <= i {
+    if !is_owned(rows, i) {
         return false;
     }
     if Clock::GENERAL <= idle.ticks {
@@ -143,11 +167,19 @@ fn active_keeps(b: &[u8], s: &[u8], f: FarmNo, rows: usize, i: usize, address: u
     if !is_tester(s, f, address) {
         return false;
     }
-    count_as(b, address) <= 1
+    !again_after(b, i, address)
 }
 
-fn state_keeps(b: &[u8], s: &[u8], f: FarmNo, rows: usize, i: usize, place: Place, state: RowState) -> bool
-    requires { ⌜ (length (now b) ≡ blockSize) × GoodSheet (now s) ⌝ }
+fn state_keeps(
+    b: &[u8],
+    s: &[u8],
+    f: FarmNo,
+    rows: usize,
+    i: usize,
+    place: Place,
+    state: RowState,
+) -> bool
+    requires { ⌜ (i < seats) × (length (now b) ≡ blockSize) × GoodSheet (now s) ⌝ }
     ensures { λ r. ⌜ r ≡ stateKeeps (testerIn (now (s .entry)) (f .0)) rows (farmOf (now (b .entry))) i place state ⌝ }
 {
     match state {
@@ -162,7 +194,7 @@ fn state_keeps(b: &[u8], s: &[u8], f: FarmNo, rows: usize, i: usize, place: Plac
 
 pub fn seat_keeps(b: &[u8], s: &[u8], f: FarmNo, site: Site, rows: usize, i: usize) -> bool
     requires { ⌜ (i < seats) × (length (now b) ≡ blockSize) × GoodSheet (now s) ⌝ }
-    ensures { λ r. ⌜ r ≡ seatKeeps (ruleSheet (now (s .entry)) (f .0) site rows) (farmOf (now (b .entry))) i ⌝ }
+    ensures { λ r. ⌜ r ≡ seatTest (ruleSheet (now (s .entry)) (f .0) site rows) (farmOf (now (b .entry))) i ⌝ }
 {
     let row = table::row::row_at(b, i);
     let place = row.place;

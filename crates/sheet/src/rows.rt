@@ -25,7 +25,7 @@ fn rows_owned(s: &[u8], i: usize) -> usize
     octets::wide(s[p + 2]) + 1
 }
 
-// The rows of the first n farms, of which a count of two bytes can say no more.
+// The rows of the first n farms. A count has two bytes, so n is small, and the sum cannot wrap.
 fn rows_before(s: &[u8], n: usize) -> usize
     requires { ⌜ (farmAt n ≤ length (now s)) × (n < 65536) ⌝ }
     ensures { λ r. ⌜ r ≡ firstRow (now (s .entry)) n ⌝ }

@@ -5,11 +5,12 @@ use mathlib.Core.Path.{_≡_, refl, sym, ap, _∙_}
 use mathlib.Core.List.{List}
 use native.Mathlib.Omega.{arith}
 use Rattle.kinds.specs.declared.Site.{Site}
-use Rattle.sheet.specs.Sheet.{farmCount}
-use Rattle.sheet.specs.Rows.{firstRow}
+use Rattle.sheet.specs.Sheet.{mostRows, farmCount}
+use Rattle.sheet.specs.Rows.{firstRow, rowsOwned}
 use Rattle.model.specs.FarmSheet.{FarmSheet, farmSheet}
 use Rattle.model.proofs.SameSite.{SameSite}
-use Rattle.sheet.proofs.RowsLaws.{first-few}
+use Rattle.sheet.proofs.RowsLaws.{first-few, owned-few, rows-within, rows-few}
+use Rattle.table.specs.Layout.{seats}
 use Rattle.rowwork.specs.Did.{siteSheet, RowsFit}
 use Rattle.site.specs.Site.{siteOf, Sited}
 
@@ -26,3 +27,21 @@ pub sited-fit : (s : List ℕ) (f : ℕ) (site : Site) → Sited s f site → Ro
 unfolding siteOf
 sited-fit s f site h =
     omega (arith, ap (λ (x : Site). x .first) (h .is), first-few s f (h .good) (omega (arith, h .has)))
+
+-- ---- the farm's rows by its site
+
+module _ (s : List ℕ) (f : ℕ) (site : Site) (h : Sited s f site) where
+  pub sited-rows : site .quota + 1 ≡ rowsOwned s f
+  unfolding siteOf
+  sited-rows = ap (λ (x : Site). x .quota + 1) (h .is)
+
+  pub sited-few : site .quota + 1 ≤ seats
+  sited-few = omega (arith, sited-rows, owned-few s f (h .good) (h .has))
+
+  pub sited-first : site .first ≡ firstRow s f
+  unfolding siteOf
+  sited-first = ap (λ (x : Site). x .first) (h .is)
+
+  -- a row of the farm is one of the sheet's
+  pub sited-row : (seat : ℕ) → seat < site .quota + 1 → site .first + seat < mostRows
+  sited-row seat k = omega (arith, sited-rows, sited-first, rows-within s f (h .has), rows-few s (h .good), k)

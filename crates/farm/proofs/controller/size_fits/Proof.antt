@@ -7,11 +7,11 @@ use Rattle.farm.proofs.controller.size_fits.Statement.{statement}
 use Rattle.farm.proofs.controller.size_fits.Tie as tie
 
 returns : tie.Need-returns
-returns c = simp (lt-leb 1 (c .before .args .n) (omega (arith, c .if1 .taken)))
+unfolding mostUser
+returns c = simp (le-leb 1 (c .before .args .n) (omega (arith, c .if1 .taken)))
 
 returns-2 : tie.Need-returns-2
-unfolding mostUser
-returns-2 c = simp (le-leb 1 (c .before .args .n) (omega (arith, c .if1 .left)))
+returns-2 c = simp (lt-leb 1 (c .before .args .n) (omega (arith, c .if1 .left)))
 
 pub size-fits-spec : {M : Type 1} → statement M
 size-fits-spec = tie.close (tie.spec returns returns-2)

@@ -2,10 +2,10 @@
 -- Assumes nothing.
 use mathlib.Core.Path.{refl, sym, _∙_}
 use Rattle.model.specs.FarmSheet.{FarmSheet, farmSheet}
-use Rattle.model.specs.Farm.{Farm, closed}
+use Rattle.model.specs.Farm.{Farm}
 use Rattle.table.specs.Block.{farmOf}
 use Rattle.rowwork.specs.Did.{siteSheet}
-use Rattle.rowwork.proofs.DidLaws.{did-same, did-says, did-then}
+use Rattle.rowwork.proofs.DidLaws.{did-same}
 use Rattle.site.proofs.SiteLaws.{sited-same, sited-fit}
 use Rattle.messages.proofs.DiagnosticLaws.{diagnosed-own, diagnosed-stranger}
 use borrow.Author.Needs.{needs}
@@ -38,11 +38,8 @@ returns c = let s = c .before .before .before .before .before .before .before .b
     (sym (c .before .before .before .before .before .before .active-as .ensures) ∙ c .before .before .before .before .before .if1 .taken) (c .before .before .before .before .code-for .ensures))
     (record { is = refl; said = r .is; whole = s .pre .2; ok = r .ok })
 
-say-requires : tie.Need-say-requires
-say-requires c κs = (c .before .before .before .before .before .before .before .pre .0, sited-fit _ _ _ (c .before .before .before .before .before .before .before .pre .1), c .before .before .before .before .before .before .before .pre .3)
-
-close-requires : tie.Need-close-requires
-close-requires c κs = (c .before .before .before .before .before .before .before .before .before .before .before .before .pre .0, sited-fit _ _ _ (c .before .before .before .before .before .before .before .before .before .before .before .before .pre .1), c .before .before .before .before .before .before .before .before .before .before .before .before .pre .2, c .before .before .before .before .say .ensures .ok)
+refuse-requires : tie.Need-refuse-requires
+refuse-requires c κs = (c .before .before .before .before .before .before .before .before .pre .0, sited-fit _ _ _ (c .before .before .before .before .before .before .before .before .pre .1), c .before .before .before .before .before .before .before .before .pre .2, c .before .before .before .before .before .before .before .before .pre .3)
 
 same-length-3 : tie.Need-same-length-3
 same-length-3 c = search needs
@@ -51,13 +48,13 @@ same-length-4 : tie.Need-same-length-4
 same-length-4 c = search needs
 
 returns-2 : tie.Need-returns-2
-returns-2 c = let s = c .before .before .before .before .before .before .before .before .before .before .before .before .before .before .before .before .before in
+returns-2 c = let s = c .before .before .before .before .before .before .before .before .before .before .before .before .before in
     let own : FarmSheet = siteSheet (s .args .site) in
     let whole : FarmSheet = farmSheet (s .args .s .now) (s .args .f .0) in
     let f : Farm = farmOf (s .args .b .now) in
     did-same _
-    (diagnosed-stranger own whole (sited-same _ _ _ (s .pre .1)) (s .args .seat) (s .args .e) f (sym (c .before .before .before .before .before .before .before .before .before .before .before .before .active-as .ensures) ∙ c .before .before .before .before .before .before .before .before .before .before .before .if1 .left))
-    (did-then _ (closed own (s .args .seat)) (did-says {f = f} (record { is = refl; whole = s .pre .2 }) (c .before .before .before .before .before .before .before .before .before .say .ensures)) (c .before .before .before .before .close .ensures))
+    (diagnosed-stranger own whole (sited-same _ _ _ (s .pre .1)) (s .args .seat) (s .args .e) f (sym (c .before .before .before .before .before .before .before .before .active-as .ensures) ∙ c .before .before .before .before .before .before .before .if1 .left))
+    (c .before .before .before .before .refuse .ensures)
 
 pub diagnose-spec : {M : Type 1} → statement M
 diagnose-spec =
@@ -69,8 +66,7 @@ diagnose-spec =
     same-length
     same-length-2
     returns
-    say-requires
-    close-requires
+    refuse-requires
     same-length-3
     same-length-4
     returns-2)

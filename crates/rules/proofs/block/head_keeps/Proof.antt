@@ -2,8 +2,7 @@
 -- Assumes nothing.
 use mathlib.Core.Path.{_≡_, sym, ap, _∙_}
 use lib.Dec.{eqb}
-use lib.ListN.{length, getD}
-use Prim.Native.Nat.{ℕ}
+use lib.ListN.{length}
 use Rattle.kinds.specs.declared.Clock.{Clock}
 use Rattle.model.specs.FarmSheet.{FarmSheet}
 use Rattle.model.specs.Farm.{Farm}

@@ -3,7 +3,6 @@
 use borrow.Author.Needs.{needs}
 use mathlib.Core.Path.{_≡_, sym}
 use Prim.Native.Nat.{_-_}
-use native.Mathlib.Omega.{arith}
 use lib.ListN.{length}
 use Rattle.wire.specs.Header.{headerSize}
 use Rattle.rules.proofs.PlaceLaws.{ZerosFrom, zeros-start, zeros-next, zeros-differ, zeros-end}

@@ -1,0 +1,4 @@
+pub mod HistoryLaws
+pub mod RoomLaws
+pub mod Promises
+pub mod Apart

@@ -1,0 +1,1 @@
+// Laws alone: the promises, of the calls that run.

@@ -1,0 +1,21 @@
+// An answer that may close the row: its entry, then the close.
+ghost use Prim.Native.Nat.{_<_};
+ghost use Rattle.outsheet.specs.Plan.{PlanOk};
+ghost use Rattle.table.specs.Layout.{seats};
+ghost use Rattle.table.specs.Block.{farmOf, Whole};
+ghost use Rattle.rowwork.specs.Did.{siteSheet, RowsFit, Did};
+ghost use Rattle.messages.specs.Codes.{refusedBy};
+use kinds::Reply;
+use kinds::Site;
+use rowwork::close;
+use rowwork::say;
+
+pub fn refuse(b: &mut [u8], p: &mut [u8], site: Site, seat: usize, reply: Reply, closes: bool)
+    requires { ⌜ (seat < seats) × RowsFit site × Whole (now b) × PlanOk (now p) ⌝ }
+    ensures { λ _. ⌜ Did (now (p .entry)) (now (b .exit)) (now (p .exit)) (refusedBy (siteSheet site) seat reply closes (farmOf (now (b .entry)))) ⌝ }
+{
+    say::say(p, site, seat, reply);
+    if closes {
+        close::close(b, p, site, seat);
+    }
+}
