@@ -56,7 +56,14 @@ fn put_sheet(out: &mut [u8], at: usize, number: u8, sheet: &[u8]) -> usize
 }
 
 // The line of a call.
-pub fn put_answer(out: &mut [u8], at: usize, number: u8, row: u8, taken: usize, sheet: &[u8]) -> usize
+pub fn put_answer(
+    out: &mut [u8],
+    at: usize,
+    number: u8,
+    row: u8,
+    taken: usize,
+    sheet: &[u8],
+) -> usize
     requires { ⌜ at + (mostCounts + (2 * length (now sheet) + 2)) ≤ length (now out) ⌝ }
     ensures { λ r. ⌜ Wrote (answerLine number row taken (now (sheet .entry))) (now (out .entry)) (now (out .exit)) at r ⌝ }
 {

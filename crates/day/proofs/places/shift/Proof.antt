@@ -42,7 +42,7 @@ loop-less : tie.Need-loop-less Inv-loop μ-loop
 loop-less c = omega arith
 
 loop-again : tie.Need-loop-again Inv-loop μ-loop
-loop-again c = 
+loop-again c =
     let l = c .before .before .loop in
     let a = c .before .before .before .args in
     let n : ℕ = a .have - a .from in
@@ -56,7 +56,7 @@ same-length : tie.Need-same-length Inv-loop μ-loop
 same-length c = c .before .loop .inv .2
 
 returns : tie.Need-returns Inv-loop μ-loop
-returns c = 
+returns c =
     let l = c .before .loop in
     let a = c .before .before .args in
     let n : ℕ = a .have - a .from in

@@ -112,11 +112,10 @@ returns-5 c = let s : List ℕ = c .before .before .before .before .before .befo
     ∙ ap (λ (k : ℕ). recordIn (part s (at + 2) k)) (sym z)
     ∙ sym (c .before .before .record-in .ensures)
     ∙ c .enum-told .given .1
-    in
-    (
+    in (
       sym (ap (wholeAt (at + 2) (u16At s at)) bad)
-      ∙ sym (next-there left after n whole (c .before .before .before .before .before .before .before .before .if1 .left) (c .before .before .before .before .before .before .if2 .left) (c .before .before .before .before .before .if3 .left) (c .before .before .before .before .if4 .left))
-      ∙ ap (λ (k : ℕ). nextOf left after k whole) e,
+          ∙ sym (next-there left after n whole (c .before .before .before .before .before .before .before .before .if1 .left) (c .before .before .before .before .before .before .if2 .left) (c .before .before .before .before .before .if3 .left) (c .before .before .before .before .if4 .left))
+          ∙ ap (λ (k : ℕ). nextOf left after k whole) e,
       tt,
     )
 
@@ -158,13 +157,12 @@ returns-6 c = let s : List ℕ = c .before .before .before .before .before .befo
     let lies = whole-lies s at n r (c .before .before .before .before .before .before .before .before .before .before .before .before .pre) (c .before .before .before .before .before .before .before .before .before .before .if1 .left) (c .before .before .before .before .before .before .before .before .if2 .left) (c .before .before .before .before .before .before .before .if3 .left) (c .before .before .before .before .before .before .if4 .left) is in
     let same : Whole r (at + 2 + 1 + c .fixed-size .result) (at + 2 + n) ≡ Whole r (at + 2 + 1 + fixedOf r) (at + 2 + n) =
     ap (λ (k : ℕ). Whole r (at + 2 + 1 + k) (at + 2 + n)) (c .fixed-size .ensures)
-    in
-    (
+    in (
       same
-      ∙ sym (ap (wholeAt (at + 2) n) is)
-      ∙ ap (λ (k : ℕ). wholeAt (at + 2) k (recordIn (part s (at + 2) k))) e
-      ∙ sym (next-there left after n whole (c .before .before .before .before .before .before .before .before .before .before .if1 .left) (c .before .before .before .before .before .before .before .before .if2 .left) (c .before .before .before .before .before .before .before .if3 .left) (c .before .before .before .before .before .before .if4 .left))
-      ∙ ap (λ (k : ℕ). nextOf left after k whole) e,
+          ∙ sym (ap (wholeAt (at + 2) n) is)
+          ∙ ap (λ (k : ℕ). wholeAt (at + 2) k (recordIn (part s (at + 2) k))) e
+          ∙ sym (next-there left after n whole (c .before .before .before .before .before .before .before .before .before .before .if1 .left) (c .before .before .before .before .before .before .before .before .if2 .left) (c .before .before .before .before .before .before .before .if3 .left) (c .before .before .before .before .before .before .if4 .left))
+          ∙ ap (λ (k : ℕ). nextOf left after k whole) e,
       subst (λ (x : Next). Lies x at (length s)) (sym same) lies,
     )
 

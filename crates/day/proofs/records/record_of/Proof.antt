@@ -106,18 +106,18 @@ returns-11 c = c .damage-in .ensures
 returns-12 : tie.Need-returns-12
 unfolding recordOf
 returns-12 c = simp (
-      ne-eqb _ _ (c .before .before .before .before .before .before .before .before .before .before .if1 .left),
-      ne-eqb _ _ (c .before .before .before .before .before .before .before .before .before .if2 .left),
-      ne-eqb _ _ (c .before .before .before .before .before .before .before .before .if3 .left),
-      ne-eqb _ _ (c .before .before .before .before .before .before .before .if4 .left),
-      ne-eqb _ _ (c .before .before .before .before .before .before .if5 .left),
-      ne-eqb _ _ (c .before .before .before .before .before .if6 .left),
-      ne-eqb _ _ (c .before .before .before .before .if7 .left),
-      ne-eqb _ _ (c .before .before .before .if8 .left),
-      ne-eqb _ _ (c .before .before .if9 .left),
-      ne-eqb _ _ (c .before .if10 .left),
-      ne-eqb _ _ (c .if11 .left),
-    )
+  ne-eqb _ _ (c .before .before .before .before .before .before .before .before .before .before .if1 .left),
+  ne-eqb _ _ (c .before .before .before .before .before .before .before .before .before .if2 .left),
+  ne-eqb _ _ (c .before .before .before .before .before .before .before .before .if3 .left),
+  ne-eqb _ _ (c .before .before .before .before .before .before .before .if4 .left),
+  ne-eqb _ _ (c .before .before .before .before .before .before .if5 .left),
+  ne-eqb _ _ (c .before .before .before .before .before .if6 .left),
+  ne-eqb _ _ (c .before .before .before .before .if7 .left),
+  ne-eqb _ _ (c .before .before .before .if8 .left),
+  ne-eqb _ _ (c .before .before .if9 .left),
+  ne-eqb _ _ (c .before .if10 .left),
+  ne-eqb _ _ (c .if11 .left),
+)
 
 pub record-of-spec : {M : Type 1} → statement M
 record-of-spec =

@@ -33,7 +33,7 @@ put-digits-returns : (t : ℕ) → put-digits-lts.Need-returns (
   put-digits-below t,
   put-digits.Post,
 ) (put-digits-at t) put-digits.Post
-put-digits-returns t c = 
+put-digits-returns t c =
     let a = c .before .before .args in
     wrote-none (a .k) (a .n) (a .out .now) (a .at) (c .if1 .taken)
 
@@ -75,7 +75,7 @@ put-digits-returns-2 : (t : ℕ) → put-digits-lts.Need-returns-2 (
   put-digits-below t,
   put-digits.Post,
 ) (put-digits-at t) put-digits.Post
-put-digits-returns-2 t c = 
+put-digits-returns-2 t c =
     let a = c .before .before .before .before .args in
     wrote-one (a .k) (a .n) (c .digit .result) (a .out .now) (a .at) (c .before .before .if1 .left) (c .before .if2 .taken) (c .digit .ensures)
     (omega (arith, pos-of-ne-zero (c .before .before .if1 .left), c .before .before .before .before .pre .1))
@@ -94,7 +94,7 @@ put-digits-put-digits-requires : (t : ℕ) → put-digits-lts.Need-put-digits-re
   put-digits-below t,
   put-digits.Post,
 ) (put-digits-at t) put-digits.Post
-put-digits-put-digits-requires t c κs = 
+put-digits-put-digits-requires t c κs =
     let some : 0 < c .before .before .before .before .args .k = pos-of-ne-zero (c .before .before .if1 .left) in (
       omega (arith, c .before .before .before .before .pre .0),
       omega (arith, c .before .before .before .before .pre .1),
@@ -114,7 +114,7 @@ put-digits-slice-write-out-2 : (t : ℕ) → put-digits-lts.Need-slice-write-out
   put-digits-below t,
   put-digits.Post,
 ) (put-digits-at t) put-digits.Post
-put-digits-slice-write-out-2 t c = 
+put-digits-slice-write-out-2 t c =
     let a = c .before .before .before .before .before .before .before .before .args in
     let w = c .before .before .before .put-digits .ensures in
     let fits : c .before .before .before .put-digits .result < length (a .out .now) =
@@ -128,7 +128,7 @@ put-digits-add-result-2 : (t : ℕ) → put-digits-lts.Need-add-result-2 (
   put-digits-below t,
   put-digits.Post,
 ) (put-digits-at t) put-digits.Post
-put-digits-add-result-2 t c = 
+put-digits-add-result-2 t c =
     let a = c .before .before .before .before .before .before .before .before .args in
     let w = c .before .before .before .put-digits .ensures in
     let fits : c .before .before .before .put-digits .result < length (a .out .now) =
@@ -150,7 +150,7 @@ put-digits-returns-3 : (t : ℕ) → put-digits-lts.Need-returns-3 (
   put-digits-below t,
   put-digits.Post,
 ) (put-digits-at t) put-digits.Post
-put-digits-returns-3 t c = 
+put-digits-returns-3 t c =
     let a = c .before .before .before .before .before .before .before .before .args in
     let w = c .before .before .before .put-digits .ensures in
     let fits : c .before .before .before .put-digits .result < length (a .out .now) =

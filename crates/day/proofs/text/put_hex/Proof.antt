@@ -46,11 +46,11 @@ loop-less : tie.Need-loop-less Inv-loop μ-loop
 loop-less c = omega arith
 
 loop-again : tie.Need-loop-again Inv-loop μ-loop
-loop-again c = 
+loop-again c =
     let l = c .before .before .before .before .before .before .loop in
     let a = c .before .before .before .before .before .before .before .before .before .args in (
       hex-turn (a .bytes .now) (a .out .now) (l .out) (c .before .before .put-hex-byte .last .0) (a .at) (l .j) (l .inv .0) (c .before .before .before .before .before .loop-test .taken) (c .before .before .before .before .before .before .before .before .before .pre)
-      (c .before .before .put-hex-byte .ensures),
+          (c .before .before .put-hex-byte .ensures),
       omega arith,
       c .before .before .put-hex-byte .kept .0 ∙ l .inv .2,
     )
@@ -65,15 +65,15 @@ same-length : tie.Need-same-length Inv-loop μ-loop
 same-length c = c .before .loop .inv .2
 
 returns : tie.Need-returns Inv-loop μ-loop
-returns c = 
+returns c =
     let l = c .before .loop in
     let a = c .before .before .before .before .args in
     let all : l .j ≡ length (a .bytes .now) = omega arith in
     record {
       put =
-        l .inv .0
-        ∙ ap (λ (k : ℕ). putAt (a .out .now) (a .at) (hex (take k (a .bytes .now)))) all
-        ∙ ap (λ (x : List ℕ). putAt (a .out .now) (a .at) (hex x)) (take-length (a .bytes .now));
+          l .inv .0
+          ∙ ap (λ (k : ℕ). putAt (a .out .now) (a .at) (hex (take k (a .bytes .now)))) all
+          ∙ ap (λ (x : List ℕ). putAt (a .out .now) (a .at) (hex x)) (take-length (a .bytes .now));
       after = omega (arith, length-hex (a .bytes .now));
     }
 

@@ -26,7 +26,7 @@ make-requires : tie.Need-make-requires
 make-requires c κs = search needs
 
 say-answer-requires : tie.Need-say-answer-requires
-say-answer-requires c κs = 
+say-answer-requires c κs =
     let long = length-front (c .before .before .before .before .before .before .before .before .before .before .before .before .before .before .before .before .before .args .out .now) (c .before .before .before .before .before .before .make .last .1 .1 .1 .1 .0) (c .before .before .before .before .before .before .before .before .before .before .before .before .before .before .before .before .before .args .run .lent .output) (c .before .before .before .before .before .before .make .kept .1 .1 .1 .1 .0) in (
       omega (arith, c .before .before .before .before .before .before .before .before .before .before .before .before .before .before .before .before .before .pre .0 .used, c .before .before .before .before .before .before .before .before .before .before .before .before .before .before .before .before .before .pre .4),
       c .before .before .before .before .before .before .before .before .before .before .before .before .before .before .before .before .before .pre .4,

@@ -16,7 +16,7 @@ same-length : tie.Need-same-length
 same-length c = search needs
 
 returns : tie.Need-returns
-returns c = 
+returns c =
     let m = c .before .before .before .before .before .before .before .args .m in
     omega (arith, c .before .before .put-farm .ensures .after, length-farm (c .before .before .before .before .before .before .before .args .f) (m .taken) (m .finished) (m .lost), c .before .before .before .before .line-at .ensures, c .before .before .before .before .before .before .before .pre .1)
 
