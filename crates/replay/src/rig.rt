@@ -3,6 +3,8 @@ ghost use mathlib.Core.Path.{_≡_};
 ghost use Prim.Native.Nat.{_≤_};
 ghost use lib.ListN.{length};
 ghost use Rattle.day.specs.Next.{RoomsFit};
+ghost use Rattle.lent.specs.Served.{memory, Served};
+ghost use Rattle.replay.specs.Played.{played};
 ghost use Rattle.replay.specs.Spaces.{spaceSize, textSize, Kept};
 use crate::say;
 use day::places;
@@ -50,7 +52,7 @@ fn make(
     out: &mut [u8],
     m: &mut [u8],
 ) -> Answer
-    ensures { λ r. ⌜ r .length ≤ length (now (out .entry)) ⌝ }
+    ensures { λ r. ⌜ Served (now (s .entry)) (played call (now (rest .entry)) (now (s .entry)) (now (t .entry)) (now (out .entry)) (now (m .entry))) r (memory (now (t .entry)) (now (out .entry)) (now (m .entry))) (memory (now (t .exit)) (now (out .exit)) (now (m .exit))) ⌝ }
 {
     match call {
         Call::Start => gateway::start::start(s, t, out, m),

@@ -1,8 +1,9 @@
 -- `rig::answer` meets its contract.
 -- Assumes nothing.
 use mathlib.Core.Path.{_≡_, sym}
-use lib.Seq.{length-take-le, length-front}
 use native.Mathlib.Omega.{arith}
+use lib.Seq.{length-take-le, length-front}
+use Rattle.replay.proofs.AnswerLaws.{answer-fits}
 use borrow.Author.Needs.{needs}
 use Rattle.replay.proofs.rig.answer.Statement.{statement}
 use Rattle.replay.proofs.rig.answer.Tie as tie
@@ -27,10 +28,11 @@ make-requires c κs = search needs
 
 say-answer-requires : tie.Need-say-answer-requires
 say-answer-requires c κs =
-    let long = length-front (c .before .before .before .before .before .before .before .before .before .before .before .before .before .before .before .before .before .args .out .now) (c .before .before .before .before .before .before .make .last .1 .1 .1 .1 .0) (c .before .before .before .before .before .before .before .before .before .before .before .before .before .before .before .before .before .args .run .lent .output) (c .before .before .before .before .before .before .make .kept .1 .1 .1 .1 .0) in (
+    let long = length-front (c .before .before .before .before .before .before .before .before .before .before .before .before .before .before .before .before .before .args .out .now) (c .before .before .before .before .before .before .make .last .1 .1 .1 .1 .0) (c .before .before .before .before .before .before .before .before .before .before .before .before .before .before .before .before .before .args .run .lent .output) (c .before .before .before .before .before .before .make .kept .1 .1 .1 .1 .0) in
+    let fits = answer-fits (c .before .before .before .before .before .before .make .ensures) (c .before .before .before .before .before .before .make .kept .1 .1 .1 .1 .0) in (
       omega (arith, c .before .before .before .before .before .before .before .before .before .before .before .before .before .before .before .before .before .pre .0 .used, c .before .before .before .before .before .before .before .before .before .before .before .before .before .before .before .before .before .pre .4),
       c .before .before .before .before .before .before .before .before .before .before .before .before .before .before .before .before .before .pre .4,
-      omega (arith, long, c .before .before .before .before .before .before .make .ensures, length-take-le (c .before .before .before .before .before .before .before .before .before .before .before .before .before .before .before .before .before .args .run .lent .output) (c .before .before .before .before .before .before .before .before .before .before .before .before .before .before .before .before .before .args .out .now) (omega (arith, c .before .before .before .before .before .before .before .before .before .before .before .before .before .before .before .before .before .pre .0 .output, c .before .before .before .before .before .before .before .before .before .before .before .before .before .before .before .before .before .pre .2)), c .before .before .before .before .before .before .before .before .before .before .before .before .before .before .before .before .before .pre .0 .output, c .before .before .before .before .before .before .before .before .before .before .before .before .before .before .before .before .before .pre .2),
+      omega (arith, long, fits, length-take-le (c .before .before .before .before .before .before .before .before .before .before .before .before .before .before .before .before .before .args .run .lent .output) (c .before .before .before .before .before .before .before .before .before .before .before .before .before .before .before .before .before .args .out .now) (omega (arith, c .before .before .before .before .before .before .before .before .before .before .before .before .before .before .before .before .before .pre .0 .output, c .before .before .before .before .before .before .before .before .before .before .before .before .before .before .before .before .before .pre .2)), c .before .before .before .before .before .before .before .before .before .before .before .before .before .before .before .before .before .pre .0 .output, c .before .before .before .before .before .before .before .before .before .before .before .before .before .before .before .before .before .pre .2),
       omega (arith, long, c .before .before .before .before .before .before .before .before .before .before .before .before .before .before .before .before .before .pre .2),
     )
 

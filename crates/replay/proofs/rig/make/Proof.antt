@@ -1,6 +1,5 @@
 -- `rig::make` meets its contract.
 -- Assumes nothing.
-use Rattle.replay.proofs.AnswerLaws.{answer-fits}
 use borrow.Author.Needs.{needs}
 use Rattle.replay.proofs.rig.make.Statement.{statement}
 use Rattle.replay.proofs.rig.make.Tie as tie
@@ -60,7 +59,7 @@ same-length-2 : tie.Need-same-length-2
 same-length-2 c = search needs
 
 returns : tie.Need-returns
-returns c = answer-fits (c .before .before .start .ensures) (c .before .before .start .kept .1 .1 .0)
+returns c = rw (c .before .before .before .before .before .before .enum-told .given .1) (c .before .before .start .ensures)
 
 same-length-3 : tie.Need-same-length-3
 same-length-3 c = search needs
@@ -69,7 +68,7 @@ same-length-4 : tie.Need-same-length-4
 same-length-4 c = search needs
 
 returns-2 : tie.Need-returns-2
-returns-2 c = answer-fits (c .before .before .connect .ensures) (c .before .before .connect .kept .1 .1 .0)
+returns-2 c = rw (c .before .before .before .before .before .before .before .call .given .1) (c .before .before .connect .ensures)
 
 same-length-5 : tie.Need-same-length-5
 same-length-5 c = search needs
@@ -78,7 +77,7 @@ same-length-6 : tie.Need-same-length-6
 same-length-6 c = search needs
 
 returns-3 : tie.Need-returns-3
-returns-3 c = answer-fits (c .before .before .before .before .bytes .ensures) (c .before .before .before .before .bytes .kept .1 .1 .0)
+returns-3 c = rw (c .before .before .before .before .before .before .before .before .before .call2 .given .1) (c .before .before .before .before .bytes .ensures)
 
 same-length-7 : tie.Need-same-length-7
 same-length-7 c = search needs
@@ -87,7 +86,7 @@ same-length-8 : tie.Need-same-length-8
 same-length-8 c = search needs
 
 returns-4 : tie.Need-returns-4
-returns-4 c = answer-fits (c .before .before .peer-closed .ensures) (c .before .before .peer-closed .kept .1 .1 .0)
+returns-4 c = rw (c .before .before .before .before .before .before .before .call3 .given .1) (c .before .before .peer-closed .ensures)
 
 same-length-9 : tie.Need-same-length-9
 same-length-9 c = search needs
@@ -96,7 +95,7 @@ same-length-10 : tie.Need-same-length-10
 same-length-10 c = search needs
 
 returns-5 : tie.Need-returns-5
-returns-5 c = answer-fits (c .before .before .link-lost .ensures) (c .before .before .link-lost .kept .1 .1 .0)
+returns-5 c = rw (c .before .before .before .before .before .before .before .call4 .given .1) (c .before .before .link-lost .ensures)
 
 same-length-11 : tie.Need-same-length-11
 same-length-11 c = search needs
@@ -105,7 +104,7 @@ same-length-12 : tie.Need-same-length-12
 same-length-12 c = search needs
 
 returns-6 : tie.Need-returns-6
-returns-6 c = answer-fits (c .before .before .tick .ensures) (c .before .before .tick .kept .1 .1 .0)
+returns-6 c = rw (c .before .before .before .before .before .before .enum-told2 .given .1) (c .before .before .tick .ensures)
 
 same-length-13 : tie.Need-same-length-13
 same-length-13 c = search needs
@@ -114,7 +113,7 @@ same-length-14 : tie.Need-same-length-14
 same-length-14 c = search needs
 
 returns-7 : tie.Need-returns-7
-returns-7 c = answer-fits (c .before .before .datagram .ensures) (c .before .before .datagram .kept .1 .1 .0)
+returns-7 c = rw (c .before .before .before .before .before .before .before .call5 .given .1) (c .before .before .datagram .ensures)
 
 same-length-15 : tie.Need-same-length-15
 same-length-15 c = search needs
@@ -123,7 +122,7 @@ same-length-16 : tie.Need-same-length-16
 same-length-16 c = search needs
 
 returns-8 : tie.Need-returns-8
-returns-8 c = answer-fits (c .before .before .controller-message .ensures) (c .before .before .controller-message .kept .1 .1 .0)
+returns-8 c = rw (c .before .before .before .before .before .before .before .call6 .given .1) (c .before .before .controller-message .ensures)
 
 pub make-spec : {M : Type 1} → statement M
 make-spec = tie.close (tie.spec enum-told start-requires enum-known-call connect-requires enum-known-call-2 bytes-requires enum-known-call-3 peer-closed-requires enum-known-call-4 link-lost-requires enum-told-2 tick-requires enum-known-call-5 datagram-requires enum-known-call-6 controller-message-requires same-length same-length-2 returns same-length-3 same-length-4 returns-2 same-length-5 same-length-6 returns-3 same-length-7 same-length-8 returns-4 same-length-9 same-length-10 returns-5 same-length-11 same-length-12 returns-6 same-length-13 same-length-14 returns-7 same-length-15 same-length-16 returns-8)
