@@ -2,4 +2,3 @@ pub mod RowsLaws
 pub mod TickLaws
 pub mod SeatedLaws
 pub mod MessageLaws
-pub mod BytesLaws

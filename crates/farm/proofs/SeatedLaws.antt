@@ -8,9 +8,11 @@ use lib.Dec.{eqb}
 use lib.ListN.{getD}
 use Rattle.kinds.specs.declared.Row.{Row}
 use Rattle.model.specs.FarmSheet.{FarmSheet}
-use Rattle.model.specs.Farm.{Farm, Done, quietly, withLine, closedWhere}
+use Rattle.model.specs.Farm.{Farm, seatCount, Done, quietly, withLine, closedWhere}
 use Rattle.model.specs.Line.{advanced, without, leftBy, left}
 use Rattle.model.specs.Move.{clockRun}
+use Rattle.model.specs.Rule.{Good}
+use Rattle.model.proofs.LineRoom.{line-below}
 use Rattle.model.proofs.Cases.{pick-case}
 use Rattle.model.proofs.Seats.{closed-line, closings-keep}
 use Rattle.table.specs.Layout.{seats}
@@ -51,3 +53,9 @@ left-seated own seat f s = by (f .line) s s
         pick-case (λ (d : Done). Seated (d .farm .line)) (eqb seat head) (advanced own rest f) (quietly (withLine f (head ∷ without seat rest)))
         (λ e. subst Seated (sym (advanced-line own rest f)) (seated-rest (head ∷ rest) k))
         (λ e. seated-more head (without seat rest) (k .each 0) (seated-without seat rest (seated-rest (head ∷ rest) k)))
+
+-- ---- a farm that keeps rule 4
+
+pub good-seated : {own : FarmSheet} {f : Farm} → Good own f → Seated (f .line)
+unfolding seatCount
+good-seated g = record { each = line-below g }

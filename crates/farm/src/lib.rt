@@ -4,4 +4,3 @@ pub mod closed; // closed.rt: peer closed, link lost
 pub mod connect; // connect.rt: a free row opens
 pub mod controller; // controller.rt: a message from a controller
 pub mod tick; // tick.rt: 10 ms later
-pub mod bytes; // bytes.rt: bytes from a row

@@ -1,4 +1,3 @@
-pub mod KeepLaws
 pub mod MeterLaws
 pub mod CallsLaws
 pub mod BytesLaws

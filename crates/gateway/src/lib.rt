@@ -6,7 +6,6 @@ pub mod closed; // closed.rt: peer closed, link lost
 pub mod connect; // connect.rt: connect
 pub mod controller; // controller.rt: message from a controller
 pub mod datagrams; // datagrams.rt: datagram
-pub mod gate; // gate.rt: refusals 1 to 4
 pub mod meters; // meters.rt: a farm's meters
 pub mod start; // start.rt: a fresh table
 pub mod tick; // tick.rt: tick

@@ -3,7 +3,6 @@ ghost use mathlib.Core.Path.{_≡_};
 ghost use lib.ListN.{length, replicate};
 ghost use Rattle.lent.specs.Lent.{lentStart};
 ghost use Rattle.lent.specs.Served.{memory, Served};
-use crate::gate;
 use lent::Answer;
 use serve::answer;
 use table::TABLE;

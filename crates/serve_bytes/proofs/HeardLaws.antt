@@ -27,8 +27,8 @@ use Rattle.model.proofs.RuleKept.{farm-ok}
 use Rattle.table.specs.Layout.{seats, blockSize}
 use Rattle.table.specs.Block.{farmOf}
 use Rattle.site.specs.Site.{siteOf, Sited}
-use Rattle.farm.specs.declared.bytes.Heard.{Heard}
-use Rattle.farm.specs.Bytes.{BytesDid}
+use Rattle.farm_bytes.specs.declared.Heard.{Heard}
+use Rattle.farm_bytes.specs.Bytes.{BytesDid}
 use Rattle.room.proofs.Moves.{Small, bytes-room}
 use Rattle.room.proofs.Long.{bytes-one}
 use Rattle.lent.specs.declared.Answer.{Answer}

@@ -15,8 +15,8 @@ use Rattle.model.specs.Stream.{Taken}
 use Rattle.model.specs.Bytes.{takenBy, payloadBy, bytesDone}
 use Rattle.model.specs.Move.{noRow}
 use Rattle.table.specs.Block.{farmOf, Holds}
-use Rattle.farm.specs.declared.bytes.Heard.{Heard}
-use Rattle.farm.specs.Bytes.{BytesDid}
+use Rattle.farm_bytes.specs.declared.Heard.{Heard}
+use Rattle.farm_bytes.specs.Bytes.{BytesDid}
 use Rattle.lent.specs.declared.Answer.{Answer}
 use Rattle.lent.specs.Lent.{block, Only, roomSize}
 use Rattle.lent.specs.Served.{done}

@@ -13,7 +13,7 @@ ghost use Rattle.site.specs.Site.{Sited};
 ghost use Rattle.lent.specs.Lent.{block};
 ghost use Rattle.serve.specs.Ready.{Ready};
 ghost use Rattle.serve_bytes.specs.Heard.{HeardAt, HeardOut};
-use farm::bytes::Heard;
+use farm_bytes::Heard;
 use kinds::FarmNo;
 use kinds::Site;
 use lent::Answer;
@@ -44,7 +44,7 @@ fn bytes_at(
     let e = a + BLOCK;
     let c = (octets::wide(site.first) + seat) * ROOM;
     let d = c + ROOM;
-    farm::bytes::bytes(&mut t[a..e], p, &mut m[c..d], s, f, site, seat, input)
+    farm_bytes::bytes(&mut t[a..e], p, &mut m[c..d], s, f, site, seat, input)
 }
 
 // The payload that is handed on is still in the row's room: the output sheet is written from there.

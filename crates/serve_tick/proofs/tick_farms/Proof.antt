@@ -5,7 +5,7 @@ use mathlib.Core.Path.{_∙_, sym}
 use native.Mathlib.Omega.{arith}
 use Rattle.sheet.proofs.LengthLaws.{good-lengths}
 use Rattle.site.proofs.SiteLaws.{sited-fit}
-use Rattle.farm.proofs.BytesLaws.{good-seated}
+use Rattle.farm.proofs.SeatedLaws.{good-seated}
 use Rattle.serve_tick.specs.Ticked.{TickedTo}
 use Rattle.serve.proofs.MovedLaws.{ready-below}
 use Rattle.serve_tick.proofs.TickLaws.{ready-still, ticked-none, ticked-more, ticked-all}

@@ -17,7 +17,7 @@ use Rattle.gateway.proofs.closed.link_lost.Reads as reads
 use Rattle.gateway.proofs.closed.link_lost.Lts as lts
 use Rattle.serve.proofs.answer.refused.Reads as refused-reads
 use Rattle.serve.proofs.closed.close_farm.Reads as close-farm-reads
-use Rattle.gateway.proofs.gate.refusal.Reads as refusal-reads
+use Rattle.gate.proofs.refusal.Reads as refusal-reads
 use Rattle.sheet.proofs.farms.has_farm.Reads as has-farm-reads
 
 refusal-requires : tie.Need-refusal-requires

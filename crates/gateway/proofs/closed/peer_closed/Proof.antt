@@ -20,7 +20,7 @@ use Rattle.gateway.proofs.closed.peer_closed.Lts as lts
 use Rattle.serve.proofs.answer.refused.Reads as refused-reads
 use Rattle.serve.proofs.at.is_open.Reads as is-open-reads
 use Rattle.serve.proofs.closed.close_row.Reads as close-row-reads
-use Rattle.gateway.proofs.gate.refusal.Reads as refusal-reads
+use Rattle.gate.proofs.refusal.Reads as refusal-reads
 use Rattle.octets.proofs.wide.Reads as wide-reads
 use Rattle.sheet.proofs.rows.owner_of.Reads as owner-of-reads
 

@@ -24,7 +24,7 @@ use Rattle.gateway.proofs.connect.connect.Lts as lts
 use Rattle.serve.proofs.answer.finish_empty.Reads as finish-empty-reads
 use Rattle.serve.proofs.answer.refused.Reads as refused-reads
 use Rattle.serve.proofs.connect.connect_at.Reads as connect-at-reads
-use Rattle.gateway.proofs.gate.refusal.Reads as refusal-reads
+use Rattle.gate.proofs.refusal.Reads as refusal-reads
 use Rattle.octets.proofs.wide.Reads as wide-reads
 use Rattle.sheet.proofs.farms.has_farm.Reads as has-farm-reads
 use Rattle.site.proofs.site_of.Reads as site-of-reads

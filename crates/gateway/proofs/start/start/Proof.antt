@@ -14,7 +14,7 @@ use Rattle.gateway.proofs.start.start.Reads as reads
 use Rattle.gateway.proofs.start.start.Lts as lts
 use Rattle.serve.proofs.answer.finish_empty.Reads as finish-empty-reads
 use Rattle.serve.proofs.answer.refused.Reads as refused-reads
-use Rattle.gateway.proofs.gate.start_refusal.Reads as start-refusal-reads
+use Rattle.gate.proofs.start_refusal.Reads as start-refusal-reads
 use Rattle.gateway.proofs.start.clear.Reads as clear-reads
 
 start-refusal-requires : tie.Need-start-refusal-requires

@@ -13,7 +13,7 @@ use Rattle.gateway.proofs.tick.tick.Tie as tie
 use Rattle.gateway.proofs.tick.tick.Reads as reads
 use Rattle.gateway.proofs.tick.tick.Lts as lts
 use Rattle.serve.proofs.answer.refused.Reads as refused-reads
-use Rattle.gateway.proofs.gate.refusal.Reads as refusal-reads
+use Rattle.gate.proofs.refusal.Reads as refusal-reads
 use Rattle.serve_tick.proofs.tick_all.Reads as tick-all-reads
 
 refusal-requires : tie.Need-refusal-requires

@@ -1,6 +1,6 @@
 -- `closed::close_farm` meets its contract.
 -- Assumes nothing.
-use Rattle.farm.proofs.BytesLaws.{good-seated}
+use Rattle.farm.proofs.SeatedLaws.{good-seated}
 use Rattle.site.proofs.SiteLaws.{sited-same, sited-fit}
 use Rattle.model.proofs.SameSite.{link-same}
 use Rattle.serve.proofs.MovedLaws.{ready-below, link-small, said-items, small-room, at-same, moved-of}

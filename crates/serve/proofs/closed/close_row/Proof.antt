@@ -1,6 +1,6 @@
 -- `closed::close_row` meets its contract.
 -- Assumes nothing.
-use Rattle.farm.proofs.BytesLaws.{good-seated}
+use Rattle.farm.proofs.SeatedLaws.{good-seated}
 use Rattle.site.proofs.SiteLaws.{sited-same, sited-fit}
 use Rattle.model.proofs.SameSite.{peer-same}
 use Rattle.serve.proofs.MovedLaws.{ready-below, peer-small, said-items, small-room, at-same, moved-of}

@@ -1,0 +1,4 @@
+pub mod RecordsLaws
+pub mod TextLaws
+pub mod LinesLaws
+pub mod PlacesLaws

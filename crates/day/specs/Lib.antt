@@ -1,0 +1,5 @@
+pub mod Records
+pub mod Next
+pub mod Text
+pub mod Lines
+pub mod Places
