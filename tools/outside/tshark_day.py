@@ -3,8 +3,8 @@
 
     tshark_day.py DAY LINES [CAPTURE]
 
-DAY is a file of recorded calls, LINES what a program that replays it prints: for each call a line with number, row, bytes taken and the output
-sheet in hexadecimal. Every message that is sent becomes a frame of a capture file (CAPTURE keeps it): from TCP port 13400, each
+DAY is a file of recorded calls, LINES what a program that replays it prints: for each call a line with number, row, bytes taken and the
+output sheet in hexadecimal. Every message that is sent becomes a frame of a capture file (CAPTURE keeps it): from TCP port 13400, each
 connection with its own stream, or from UDP port 13400. tshark takes the frames apart with its own DoIP dissector, and each field that it
 shows is compared with what was meant. What was meant comes from the farm sheet and the call where these settle it (VIN, EID, GID,
 addresses of entities, quota, mode, what a controller said, what was handed on), and else from the bytes as document 01 lays them out.

@@ -52,15 +52,11 @@ def functions(archive):
         elif SUB.match(last):
             found[name][0] += abs(int(SUB.match(last)[1], 0))
         elif CALL.match(last):
-            if "*" in last:
-                jump_table = last.startswith("jmp")
-                if not jump_table:
-                    raise SystemExit(f"frames.py: {name} calls through a pointer: {last}")
+            if last.startswith("call") and "*" in last:
+                raise SystemExit(f"frames.py: {name} calls through a pointer: {last}")
             inner = re.search(r"<([^>+]+)>", last)
-            if inner and inner[1] != name and inner[1] in found:
+            if inner and (inner[1] != name or last.startswith("call")):
                 found[name][1].add(inner[1])
-            elif inner and inner[1] == name and last.startswith("call"):
-                found[name][1].add(name)
         elif re.search(r", %rsp$", last) and not UP.match(last) and not re.match(r"^(cmp|test)", last):
             raise SystemExit(f"frames.py: {name} moves the stack pointer in a way not known here: {last}")
     return found
