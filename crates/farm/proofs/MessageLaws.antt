@@ -19,8 +19,9 @@ use Rattle.model.specs.Row.{activeAs}
 use Rattle.model.specs.Farm.{Farm, says}
 use Rattle.model.specs.Move.{Held, Move, refused, mostUser, isTarget, toTester, controllerMove}
 use Rattle.model.specs.Table.{itemsBy}
-use Rattle.outsheet.specs.Plan.{itemsOf, PlanOk, Said, pushedTo}
-use Rattle.rowwork.specs.Did.{siteSheet, pushedAll}
+use Rattle.plan.specs.Plan.{itemsOf, PlanOk, Said, pushedTo}
+use Rattle.rowwork.specs.SiteSheet.{siteSheet}
+use Rattle.rowwork.specs.Did.{pushedAll}
 use Rattle.rowwork.proofs.DidLaws.{pushed-none, pushed-one}
 use Rattle.site.specs.Site.{Sited}
 use Rattle.site.proofs.SiteLaws.{sited-same}

@@ -15,7 +15,7 @@ use Rattle.model.specs.FarmSheet.{farmSheet}
 use Rattle.model.specs.Farm.{Farm, withRow}
 use Rattle.model.specs.Move.{Move, refused, gave, mostUser, controllerMove}
 use Rattle.model.specs.Table.{itemsBy}
-use Rattle.outsheet.specs.Plan.{itemsOf, PlanOk}
+use Rattle.plan.specs.Plan.{itemsOf, PlanOk}
 use Rattle.table.specs.Block.{farmOf, Holds}
 use Rattle.rowwork.specs.Did.{pushedAll}
 

@@ -1,10 +1,11 @@
 // Rows that close from outside: their peer has closed, or the farm's link is lost.
 ghost use Prim.Native.Nat.{_<_};
 ghost use Rattle.model.specs.Move.{peerGone, linkGone};
-ghost use Rattle.outsheet.specs.Plan.{PlanOk};
+ghost use Rattle.plan.specs.Plan.{PlanOk};
 ghost use Rattle.table.specs.Layout.{seats};
 ghost use Rattle.table.specs.Block.{farmOf, Whole};
-ghost use Rattle.rowwork.specs.Did.{siteSheet, RowsFit, Seated, Did};
+ghost use Rattle.rowwork.specs.SiteSheet.{siteSheet};
+ghost use Rattle.rowwork.specs.Did.{RowsFit, Seated, Did};
 use kinds::Site;
 use line::join;
 use line::settle;

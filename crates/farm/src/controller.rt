@@ -4,7 +4,7 @@ ghost use lib.ListN.{length};
 ghost use Rattle.sheet.specs.Rules.{GoodSheet};
 ghost use Rattle.model.specs.FarmSheet.{farmSheet};
 ghost use Rattle.model.specs.Move.{isTarget};
-ghost use Rattle.outsheet.specs.Plan.{PlanOk};
+ghost use Rattle.plan.specs.Plan.{PlanOk};
 ghost use Rattle.table.specs.Layout.{blockSize};
 ghost use Rattle.table.specs.Block.{farmOf};
 ghost use Rattle.site.specs.Site.{Sited};

@@ -35,7 +35,8 @@ use Rattle.model.proofs.SameSite.{SameSite, settle-same}
 use Rattle.model.proofs.Settling.{started-farm}
 use Rattle.table.specs.Layout.{seats}
 use Rattle.table.specs.Block.{farmOf, Holds}
-use Rattle.rowwork.specs.Did.{siteSheet, Seated, Did}
+use Rattle.rowwork.specs.SiteSheet.{siteSheet}
+use Rattle.rowwork.specs.Did.{Seated, Did}
 use Rattle.rowwork.proofs.DidLaws.{did-same, did-then, did-after}
 use Rattle.messages.specs.Length.{EndsWell}
 use Rattle.farm_bytes.specs.Bytes.{idleAfter, storedLong, payloadLong}

@@ -11,7 +11,7 @@ ghost use Rattle.model.specs.Stream.{streamOf, overAt, endedBy};
 ghost use Rattle.model.specs.Farm.{tookMore, finishedMore};
 ghost use Rattle.model.specs.Bytes.{heard, takenBy};
 ghost use Rattle.model.specs.Rule.{Good};
-ghost use Rattle.outsheet.specs.Plan.{PlanOk};
+ghost use Rattle.plan.specs.Plan.{PlanOk};
 ghost use Rattle.table.specs.Layout.{seats};
 ghost use Rattle.table.specs.Block.{farmOf, Whole, Holds};
 ghost use Rattle.site.specs.Site.{Sited};

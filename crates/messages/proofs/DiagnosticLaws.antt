@@ -19,7 +19,7 @@ use Rattle.model.specs.Row.{rowAt, activeAs}
 use Rattle.model.specs.Farm.{Farm, does, andThen, says, closed}
 use Rattle.model.specs.Bytes.{toTarget, diagnosed, faulted}
 use Rattle.model.proofs.SameSite.{SameSite}
-use Rattle.outsheet.specs.Plan.{pushedTo}
+use Rattle.plan.specs.Plan.{pushedTo}
 use Rattle.rowwork.specs.Did.{pushedAll}
 use Rattle.messages.specs.Codes.{targetCode, repliesBy, refusedBy}
 

@@ -1,10 +1,11 @@
 // A header judged wrong: "A NACK is type 0000 with the code as its one byte."
 ghost use Prim.Native.Nat.{_<_};
 ghost use Rattle.model.specs.Bytes.{faulted};
-ghost use Rattle.outsheet.specs.Plan.{PlanOk};
+ghost use Rattle.plan.specs.Plan.{PlanOk};
 ghost use Rattle.table.specs.Layout.{seats};
 ghost use Rattle.table.specs.Block.{farmOf, Whole};
-ghost use Rattle.rowwork.specs.Did.{siteSheet, RowsFit, Did};
+ghost use Rattle.rowwork.specs.SiteSheet.{siteSheet};
+ghost use Rattle.rowwork.specs.Did.{RowsFit, Did};
 use crate::refuse;
 use kinds::Fault;
 use kinds::Reply;

@@ -5,7 +5,7 @@ ghost use lib.ListN.{length, take};
 ghost use Rattle.wire.specs.Header.{mostPayload};
 ghost use Rattle.model.specs.FarmSheet.{farmSheet};
 ghost use Rattle.model.specs.Bytes.{messaged, eventDone};
-ghost use Rattle.outsheet.specs.Plan.{PlanOk};
+ghost use Rattle.plan.specs.Plan.{PlanOk};
 ghost use Rattle.table.specs.Layout.{seats};
 ghost use Rattle.table.specs.Block.{farmOf, Whole};
 ghost use Rattle.rowwork.specs.Did.{Did};

@@ -1,9 +1,10 @@
 // An answer that may close the row: its entry, then the close.
 ghost use Prim.Native.Nat.{_<_};
-ghost use Rattle.outsheet.specs.Plan.{PlanOk};
+ghost use Rattle.plan.specs.Plan.{PlanOk};
 ghost use Rattle.table.specs.Layout.{seats};
 ghost use Rattle.table.specs.Block.{farmOf, Whole};
-ghost use Rattle.rowwork.specs.Did.{siteSheet, RowsFit, Did};
+ghost use Rattle.rowwork.specs.SiteSheet.{siteSheet};
+ghost use Rattle.rowwork.specs.Did.{RowsFit, Did};
 ghost use Rattle.messages.specs.Codes.{refusedBy};
 use kinds::Reply;
 use kinds::Site;

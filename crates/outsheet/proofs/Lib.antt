@@ -1,4 +1,3 @@
-pub mod PlanLaws
 pub mod SwapLaws
 pub mod SheetLaws
 pub mod ArmLaws

@@ -19,9 +19,9 @@ use Rattle.kinds.specs.declared.Reply.the-variants.{Nack, Identity, Activation,
 use Rattle.kinds.specs.declared.Item.{Item}
 use Rattle.outsheet.specs.Sheet.{entryBytes, bodies, totalOf}
 use Rattle.outsheet.specs.Replies.{identityOf, replyBytes, entryOf, entriesOf, isLong, isLongItem}
-use Rattle.outsheet.specs.Plan.{planRoom, PlanOk, itemsOf}
+use Rattle.plan.specs.Plan.{planRoom, PlanOk, itemsOf}
 use Rattle.outsheet.specs.Contracts.{leastOutput, longest, Room}
-use Rattle.outsheet.proofs.PlanLaws.{items-few}
+use Rattle.plan.proofs.PlanLaws.{items-few}
 use Rattle.outsheet.proofs.SheetLaws.{length-entry}
 
 -- of a lent record, the identity is sent

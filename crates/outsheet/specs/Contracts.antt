@@ -7,7 +7,7 @@ use lib.ListN.{length, drop}
 use Rattle.octets.specs.Put.{putAt}
 use Rattle.outsheet.specs.Sheet.{Entry, entryBytes, offsets, bodies, firstPlace, totalOf}
 use Rattle.outsheet.specs.Replies.{entriesOf}
-use Rattle.outsheet.specs.Plan.{PlanOk, itemsOf}
+use Rattle.plan.specs.Plan.{PlanOk, itemsOf}
 
 -- "Output buffer: at least 4,096 bytes."
 abbrev pub leastOutput : ℕ

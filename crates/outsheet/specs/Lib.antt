@@ -1,4 +1,3 @@
 pub mod Sheet
 pub mod Replies
-pub mod Plan
 pub mod Contracts

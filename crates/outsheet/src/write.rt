@@ -11,7 +11,7 @@ ghost use Rattle.octets.specs.Numbers.{be16};
 ghost use Rattle.layout.specs.Layout.{messageBytes};
 ghost use Rattle.outsheet.specs.Sheet.{entry, sheetOf};
 ghost use Rattle.outsheet.specs.Replies.{send, identityOf, entryOf, entriesOf};
-ghost use Rattle.outsheet.specs.Plan.{itemsOf};
+ghost use Rattle.plan.specs.Plan.{itemsOf};
 ghost use Rattle.outsheet.specs.Contracts.{Fits, Entered, Room, Laid, Wrote};
 
 // The kinds of an entry.
@@ -135,12 +135,12 @@ fn put_entries(out: &mut [u8], p: &[u8], long: &[u8]) -> usize
     requires { ⌜ Room (now p) (now long) (length (now out)) ⌝ }
     ensures { λ r. ⌜ Laid (entriesOf (now (long .entry)) (itemsOf (now (p .entry)))) (now (out .entry)) (now (out .exit)) r ⌝ }
 {
-    let n = crate::plan::count(p);
+    let n = plan::count(p);
     let mut at = HEAD + 2 * n;
     let mut i = 0;
     while i < n {
         octets::write16(out, HEAD + 2 * i, at as u16);
-        let it = crate::plan::item_at(p, i);
+        let it = plan::item_at(p, i);
         at = put_entry(out, at, it, long);
         i += 1;
     }
@@ -152,7 +152,7 @@ pub fn write_sheet(out: &mut [u8], p: &[u8], long: &[u8]) -> usize
     requires { ⌜ Room (now p) (now long) (length (now out)) ⌝ }
     ensures { λ r. ⌜ Wrote (sheetOf (entriesOf (now (long .entry)) (itemsOf (now (p .entry))))) (now (out .entry)) (now (out .exit)) r ⌝ }
 {
-    let n = crate::plan::count(p);
+    let n = plan::count(p);
     let total = put_entries(out, p, long);
     let head = [
         (n / 256) as u8,

@@ -15,7 +15,7 @@ use Rattle.kinds.specs.declared.Item.{Item}
 use Rattle.kinds.specs.declared.RowState.{RowState}
 use Rattle.kinds.specs.declared.RowState.the-variants.{Free, Fresh, Waiting, Active}
 use Rattle.datagram.specs.Datagram.{answerTo}
-use Rattle.outsheet.specs.Plan.{planRoom}
+use Rattle.plan.specs.Plan.{planRoom}
 use Rattle.outsheet.specs.Replies.{isLongItem}
 use Rattle.outsheet.specs.Contracts.{longest}
 use Rattle.model.specs.FarmSheet.{FarmSheet}

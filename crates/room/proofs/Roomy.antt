@@ -23,7 +23,7 @@ use Rattle.sheet.proofs.FarmsLaws.{record-length}
 use Rattle.sheet.proofs.RowsLaws.{rows-mono, rows-few, owner-seat}
 use Rattle.sheet.proofs.TestLaws.{good-says}
 use Rattle.outsheet.specs.Sheet.{totalOf}
-use Rattle.outsheet.specs.Plan.{planRoom}
+use Rattle.plan.specs.Plan.{planRoom}
 use Rattle.outsheet.specs.Replies.{isLongItem, entriesOf}
 use Rattle.outsheet.specs.Contracts.{leastOutput, longest}
 use Rattle.outsheet.proofs.RoomLaws.{total-most}

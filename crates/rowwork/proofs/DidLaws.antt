@@ -13,7 +13,7 @@ use borrow.Author.Tests.{lt-ltb}
 use Rattle.kinds.specs.declared.Item.{Item}
 use Rattle.model.specs.Farm.{Farm, Done, does, quietly, andThen, eachSeat, seatCount}
 use Rattle.model.proofs.Seats.{seatsTo, seats-zero, seats-suc, seats-all}
-use Rattle.outsheet.specs.Plan.{planRoom, itemsOf, PlanOk, Said, pushedTo}
+use Rattle.plan.specs.Plan.{planRoom, itemsOf, PlanOk, Said, pushedTo}
 use Rattle.table.specs.Block.{farmOf, Whole, Holds}
 use Rattle.rowwork.specs.Did.{pushedAll, Did}
 

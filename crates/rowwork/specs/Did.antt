@@ -3,30 +3,14 @@
 -- Assumes nothing: these are definitions.
 use Prim.Native.Nat.{ℕ, _+_, _<_, _≤_}
 use mathlib.Core.Path.{_≡_}
-use mathlib.Core.Bool.{false}
 use mathlib.Core.List.{List, [], _∷_}
 use lib.ListN.{getD}
 use Rattle.kinds.specs.declared.Item.{Item}
 use Rattle.kinds.specs.declared.Site.{Site}
-use Rattle.model.specs.FarmSheet.{FarmSheet, stranger}
 use Rattle.model.specs.Farm.{Done}
-use Rattle.outsheet.specs.Plan.{itemsOf, PlanOk, pushedTo}
+use Rattle.plan.specs.Plan.{itemsOf, PlanOk, pushedTo}
 use Rattle.table.specs.Layout.{seats}
 use Rattle.table.specs.Block.{farmOf, Whole}
-
--- the sheet of a farm of which three numbers are known. The line's rules look at no more of it: SameSite, of the model's laws, carries
--- what is said here to the whole sheet
-unfoldable pub siteSheet : Site → FarmSheet
-siteSheet site =
-    record {
-      entity = site .entity;
-      quota = site .quota;
-      first = site .first;
-      rows = site .quota + 1;
-      tester = λ a. false;
-      target = λ a. stranger;
-      names = [];
-    }
 
 -- the number of each of the farm's rows is a byte
 abbrev pub RowsFit : Site → Type 0

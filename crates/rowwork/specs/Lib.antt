@@ -1,2 +1,3 @@
+pub mod SiteSheet
 pub mod Did
 pub mod Steps

@@ -2,10 +2,11 @@
 ghost use Prim.Native.Nat.{_<_};
 ghost use Rattle.model.specs.Farm.{andThen, closedWhere};
 ghost use Rattle.model.specs.Line.{accepted, isSilent, answered};
-ghost use Rattle.outsheet.specs.Plan.{PlanOk};
+ghost use Rattle.plan.specs.Plan.{PlanOk};
 ghost use Rattle.table.specs.Layout.{seats};
 ghost use Rattle.table.specs.Block.{farmOf, Whole};
-ghost use Rattle.rowwork.specs.Did.{siteSheet, RowsFit, Did};
+ghost use Rattle.rowwork.specs.SiteSheet.{siteSheet};
+ghost use Rattle.rowwork.specs.Did.{RowsFit, Did};
 ghost use Rattle.rowwork.specs.Steps.{acted};
 use crate::close;
 use crate::decide::ACCEPTED;

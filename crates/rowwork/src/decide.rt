@@ -8,7 +8,7 @@ ghost use Rattle.model.specs.Row.{rowAt, isActive, isActiveState, activeAs, act
 ghost use Rattle.model.specs.Line.{byPlaces, socketRules, asks, isSilent, allAnswered, refusalOf, verdictBy, headVerdict};
 ghost use Rattle.table.specs.Layout.{seats, blockSize};
 ghost use Rattle.table.specs.Block.{farmOf};
-ghost use Rattle.rowwork.specs.Did.{siteSheet};
+ghost use Rattle.rowwork.specs.SiteSheet.{siteSheet};
 use kinds::Check;
 use kinds::Clock;
 use kinds::Decision;

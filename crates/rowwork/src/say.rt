@@ -3,9 +3,10 @@ ghost use mathlib.Core.Path.{_≡_};
 ghost use Prim.Native.Nat.{_<_};
 ghost use Rattle.model.specs.Row.{rowOf};
 ghost use Rattle.model.specs.Farm.{says};
-ghost use Rattle.outsheet.specs.Plan.{itemsOf, PlanOk, Said, pushedTo};
+ghost use Rattle.plan.specs.Plan.{itemsOf, PlanOk, Said, pushedTo};
 ghost use Rattle.table.specs.Layout.{seats};
-ghost use Rattle.rowwork.specs.Did.{siteSheet, RowsFit};
+ghost use Rattle.rowwork.specs.SiteSheet.{siteSheet};
+ghost use Rattle.rowwork.specs.Did.{RowsFit};
 use kinds::Item;
 use kinds::Place;
 use kinds::Reply;
@@ -23,7 +24,7 @@ pub fn say(p: &mut [u8], site: Site, seat: usize, reply: Reply)
 {
     let n = octets::wide(site.first) + seat;
     let row = RowNo(n as u8);
-    outsheet::plan::push(
+    plan::push(
         p,
         Item {
             row: row,

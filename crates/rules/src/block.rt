@@ -9,7 +9,7 @@ ghost use Rattle.model.specs.FarmSheet.{slotSheet};
 ghost use Rattle.model.specs.RuleTest.{everySeat, isPending, headKeeps, seatKeeps, goodFarm};
 ghost use Rattle.table.specs.Layout.{seats, blockSize};
 ghost use Rattle.table.specs.Block.{farmOf, wholeBlock};
-ghost use Rattle.rowwork.specs.Did.{siteSheet};
+ghost use Rattle.rowwork.specs.SiteSheet.{siteSheet};
 ghost use Rattle.rules.specs.Rules.{ruleSheet};
 use crate::seat;
 use kinds::Clock;

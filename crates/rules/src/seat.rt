@@ -12,7 +12,7 @@ ghost use Rattle.model.specs.Line.{isMarked, isAsked};
 ghost use Rattle.model.specs.Rule.{times};
 ghost use Rattle.table.specs.Layout.{seats, blockSize};
 ghost use Rattle.table.specs.Block.{farmOf};
-ghost use Rattle.rowwork.specs.Did.{siteSheet};
+ghost use Rattle.rowwork.specs.SiteSheet.{siteSheet};
 ghost use Rattle.rules.specs.Rules.{testerIn, ruleSheet, freeKeeps, freshKeeps, waitingKeeps, activeKeeps, stateKeeps, seatTest};
 use crate::place;
 use kinds::Clock;

@@ -8,7 +8,7 @@ use Rattle.kinds.specs.declared.Item.{Item}
 use Rattle.octets.specs.Search.{countIf}
 use Rattle.outsheet.specs.Sheet.{sheetOf}
 use Rattle.outsheet.specs.Replies.{entriesOf, isLongItem}
-use Rattle.outsheet.specs.Plan.{itemsOf, Said}
+use Rattle.plan.specs.Plan.{itemsOf, Said}
 use Rattle.outsheet.specs.Contracts.{leastOutput, Room, Wrote}
 use Rattle.outsheet.proofs.RoomLaws.{room-for}
 

@@ -10,7 +10,7 @@ use Rattle.kinds.specs.declared.Item.{Item}
 use Rattle.sheet.specs.Sheet.{mostFarms}
 use Rattle.outsheet.specs.Sheet.{sheetOf}
 use Rattle.outsheet.specs.Replies.{entriesOf, isLongItem}
-use Rattle.outsheet.specs.Plan.{planRoom, itemsOf, PlanOk, Said}
+use Rattle.plan.specs.Plan.{planRoom, itemsOf, PlanOk, Said}
 use Rattle.outsheet.specs.Contracts.{leastOutput, Room, Wrote}
 use Rattle.outsheet.proofs.RoomLaws.{room-for}
 use Rattle.model.specs.FarmSheet.{farmSheet}

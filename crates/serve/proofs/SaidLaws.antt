@@ -19,7 +19,7 @@ use Rattle.sheet.proofs.LengthLaws.{good-lengths}
 use Rattle.datagram.specs.Datagram.{answerTo}
 use Rattle.outsheet.specs.Sheet.{sheetOf}
 use Rattle.outsheet.specs.Replies.{entriesOf}
-use Rattle.outsheet.specs.Plan.{itemsOf, Said}
+use Rattle.plan.specs.Plan.{itemsOf, Said}
 use Rattle.outsheet.specs.Contracts.{leastOutput, longest, Room, Wrote}
 use Rattle.model.specs.FarmSheet.{FarmSheet, farmSheet}
 use Rattle.model.specs.Row.{activeAs}

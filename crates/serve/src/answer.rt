@@ -5,11 +5,11 @@ ghost use Prim.Native.Nat.{_≤_};
 ghost use lib.ListN.{length};
 ghost use Rattle.outsheet.specs.Sheet.{sheetOf};
 ghost use Rattle.outsheet.specs.Replies.{entriesOf};
-ghost use Rattle.outsheet.specs.Plan.{itemsOf};
+ghost use Rattle.plan.specs.Plan.{itemsOf};
 ghost use Rattle.outsheet.specs.Contracts.{leastOutput, Room, Wrote};
 ghost use Rattle.lent.specs.Served.{refusal, done};
 use lent::Answer;
-use outsheet::plan::PLAN;
+use plan::PLAN;
 
 // Where an answer has no row: "its row is the opened one for connect, else 255".
 pub const NO_ROW: u8 = 255;
@@ -58,6 +58,6 @@ pub fn finish_empty(out: &mut [u8], row: u8) -> Answer
 {
     let mut space = [0; PLAN];
     let p: &mut [u8] = &mut space;
-    outsheet::plan::empty(p);
+    plan::empty(p);
     finish_short(out, p, row)
 }

@@ -5,11 +5,12 @@ ghost use lib.ListN.{length};
 ghost use Rattle.sheet.specs.Sheet.{mostFarms};
 ghost use Rattle.model.specs.FarmSheet.{farmSheet};
 ghost use Rattle.model.specs.Move.{peerGone, linkGone};
-ghost use Rattle.outsheet.specs.Plan.{PlanOk};
+ghost use Rattle.plan.specs.Plan.{PlanOk};
 ghost use Rattle.outsheet.specs.Contracts.{leastOutput};
 ghost use Rattle.table.specs.Layout.{seats, tableSize};
 ghost use Rattle.table.specs.Block.{farmOf, Whole};
-ghost use Rattle.rowwork.specs.Did.{siteSheet, RowsFit, Seated};
+ghost use Rattle.rowwork.specs.SiteSheet.{siteSheet};
+ghost use Rattle.rowwork.specs.Did.{RowsFit, Seated};
 ghost use Rattle.lent.specs.Lent.{block};
 ghost use Rattle.serve.specs.Ready.{Ready};
 ghost use Rattle.serve.specs.Moved.{DidAt, Moved};
@@ -17,8 +18,7 @@ use crate::answer;
 use kinds::FarmNo;
 use kinds::Site;
 use lent::Answer;
-use outsheet::plan;
-use outsheet::plan::PLAN;
+use plan::PLAN;
 use table::BLOCK;
 
 // The farm's block is lent alone.

@@ -3,7 +3,7 @@ ghost use mathlib.Core.Path.{_≡_};
 ghost use Prim.Native.Nat.{_<_, _≤_};
 ghost use lib.ListN.{length};
 ghost use Rattle.sheet.specs.Sheet.{mostFarms};
-ghost use Rattle.outsheet.specs.Plan.{PlanOk};
+ghost use Rattle.plan.specs.Plan.{PlanOk};
 ghost use Rattle.outsheet.specs.Contracts.{leastOutput};
 ghost use Rattle.table.specs.Layout.{tableSize};
 ghost use Rattle.table.specs.Block.{farmOf};
@@ -16,8 +16,7 @@ use crate::answer;
 use kinds::FarmNo;
 use kinds::Site;
 use lent::Answer;
-use outsheet::plan;
-use outsheet::plan::PLAN;
+use plan::PLAN;
 use table::BLOCK;
 
 // The farm's block is lent alone.

@@ -5,7 +5,7 @@ ghost use lib.ListN.{length};
 ghost use Rattle.datagram.specs.Datagram.{answerTo};
 ghost use Rattle.sheet.specs.Sheet.{farmRecord};
 ghost use Rattle.model.specs.Move.{answers, openRows};
-ghost use Rattle.outsheet.specs.Plan.{Said};
+ghost use Rattle.plan.specs.Plan.{Said};
 ghost use Rattle.outsheet.specs.Contracts.{leastOutput};
 ghost use Rattle.table.specs.Block.{farmOf};
 ghost use Rattle.lent.specs.Lent.{block};
@@ -17,8 +17,7 @@ use kinds::FarmNo;
 use kinds::Item;
 use kinds::RowNo;
 use lent::Answer;
-use outsheet::plan;
-use outsheet::plan::PLAN;
+use plan::PLAN;
 use sheet::farms;
 
 // The version that we speak.

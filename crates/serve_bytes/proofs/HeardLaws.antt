@@ -16,7 +16,7 @@ use Rattle.sheet.specs.Rows.{firstRow, rowsOwned}
 use Rattle.sheet.proofs.RowsLaws.{rows-within, rows-few, owned-few}
 use Rattle.outsheet.specs.Sheet.{sheetOf}
 use Rattle.outsheet.specs.Replies.{entriesOf}
-use Rattle.outsheet.specs.Plan.{itemsOf, Said}
+use Rattle.plan.specs.Plan.{itemsOf, Said}
 use Rattle.outsheet.specs.Contracts.{leastOutput, Room, Wrote}
 use Rattle.model.specs.FarmSheet.{farmSheet}
 use Rattle.model.specs.Stream.{Taken}

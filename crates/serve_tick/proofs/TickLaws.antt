@@ -17,7 +17,7 @@ use Rattle.kinds.specs.declared.Item.{Item}
 use Rattle.kinds.specs.declared.Site.{Site}
 use Rattle.sheet.specs.Sheet.{mostFarms, farmCount}
 use Rattle.sheet.proofs.Order.{le-or-lt}
-use Rattle.outsheet.specs.Plan.{itemsOf, Said}
+use Rattle.plan.specs.Plan.{itemsOf, Said}
 use Rattle.model.specs.FarmSheet.{FarmSheet, farmSheet, slotSheet}
 use Rattle.model.specs.Farm.{Farm}
 use Rattle.model.specs.Move.{Held, Move, refused, noRow, ticked, tickMove}
@@ -27,7 +27,8 @@ use Rattle.model.proofs.RuleKept.{GoodAll}
 use Rattle.model.proofs.SameSite.{ticked-same}
 use Rattle.table.specs.Block.{farmOf, image, Whole, Holds}
 use Rattle.table.proofs.BlockLaws.{exact}
-use Rattle.rowwork.specs.Did.{siteSheet, pushedAll}
+use Rattle.rowwork.specs.SiteSheet.{siteSheet}
+use Rattle.rowwork.specs.Did.{pushedAll}
 use Rattle.rowwork.proofs.DidLaws.{pushed-none, pushed-append, pushed-first}
 use Rattle.site.specs.Site.{Sited}
 use Rattle.site.proofs.SiteLaws.{sited-same}

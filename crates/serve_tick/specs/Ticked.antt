@@ -9,7 +9,7 @@ use Rattle.kinds.specs.declared.Item.{Item}
 use Rattle.sheet.specs.Sheet.{farmCount}
 use Rattle.outsheet.specs.Sheet.{sheetOf}
 use Rattle.outsheet.specs.Replies.{entriesOf}
-use Rattle.outsheet.specs.Plan.{itemsOf, PlanOk}
+use Rattle.plan.specs.Plan.{itemsOf, PlanOk}
 use Rattle.outsheet.specs.Contracts.{Wrote}
 use Rattle.model.specs.FarmSheet.{farmSheet}
 use Rattle.model.specs.Farm.{Done}

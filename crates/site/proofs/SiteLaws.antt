@@ -11,7 +11,8 @@ use Rattle.model.specs.FarmSheet.{FarmSheet, farmSheet}
 use Rattle.model.proofs.SameSite.{SameSite}
 use Rattle.sheet.proofs.RowsLaws.{first-few, owned-few, rows-within, rows-few}
 use Rattle.table.specs.Layout.{seats}
-use Rattle.rowwork.specs.Did.{siteSheet, RowsFit}
+use Rattle.rowwork.specs.SiteSheet.{siteSheet}
+use Rattle.rowwork.specs.Did.{RowsFit}
 use Rattle.site.specs.Site.{siteOf, Sited}
 
 pub sited-same : (s : List ℕ) (f : ℕ) (site : Site) → Sited s f site → SameSite (siteSheet site) (farmSheet s f)

@@ -12,7 +12,7 @@ use Rattle.serve_tick.proofs.tick_all.Reads as reads
 use Rattle.serve_tick.proofs.tick_all.Lts as lts
 use Rattle.serve.proofs.answer.finish_short.Reads as finish-short-reads
 use Rattle.serve_tick.proofs.tick_farms.Reads as tick-farms-reads
-use Rattle.outsheet.proofs.plan.empty.Reads as empty-reads
+use Rattle.plan.proofs.empty.Reads as empty-reads
 
 slice-aggregate-p : tie.Need-slice-aggregate-p
 slice-aggregate-p c = search needs

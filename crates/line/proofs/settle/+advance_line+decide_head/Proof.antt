@@ -12,7 +12,8 @@ use Rattle.model.specs.Row.{rowAt, wanted}
 use Rattle.model.specs.Farm.{Farm, andThen}
 use Rattle.model.specs.Line.{advanced, headVerdict, settleLine}
 use Rattle.table.specs.Block.{farmOf}
-use Rattle.rowwork.specs.Did.{siteSheet, Seated}
+use Rattle.rowwork.specs.SiteSheet.{siteSheet}
+use Rattle.rowwork.specs.Did.{Seated}
 use Rattle.rowwork.specs.Steps.{acted}
 use Rattle.rowwork.proofs.DidLaws.{did-same, did-nothing, did-then, then-assoc}
 use Rattle.line.specs.Verdict.{isPending}

@@ -6,8 +6,9 @@ use Rattle.kinds.specs.declared.Item.{Item}
 use Rattle.kinds.specs.declared.Reply.the-variants.{Ack, DiagnosticNack, HandOn}
 use Rattle.model.specs.FarmSheet.{FarmSheet}
 use Rattle.model.specs.Farm.{says}
-use Rattle.outsheet.specs.Plan.{itemsOf, pushedTo}
-use Rattle.rowwork.specs.Did.{siteSheet, pushedAll}
+use Rattle.plan.specs.Plan.{itemsOf, pushedTo}
+use Rattle.rowwork.specs.SiteSheet.{siteSheet}
+use Rattle.rowwork.specs.Did.{pushedAll}
 use Rattle.rowwork.proofs.DidLaws.{pushed-one}
 use Rattle.messages.proofs.DiagnosticLaws.{said-twice, replies-on, replies-refused}
 use borrow.Author.Needs.{needs}

@@ -11,9 +11,9 @@ use Rattle.octets.specs.Put.{putAt}
 use Rattle.kinds.specs.declared.Item.{Item}
 use Rattle.outsheet.specs.Sheet.{Entry, entryBytes}
 use Rattle.outsheet.specs.Replies.{entryOf, entriesOf}
-use Rattle.outsheet.specs.Plan.{itemAt, itemsOf, noItem}
+use Rattle.plan.specs.Plan.{itemAt, itemsOf, noItem}
 use Rattle.outsheet.specs.Contracts.{leastOutput}
-use Rattle.outsheet.proofs.PlanLaws.{items-few, item-said}
+use Rattle.plan.proofs.PlanLaws.{items-few, item-said}
 use Rattle.outsheet.proofs.SheetLaws.{placeOf, laidUpTo, none-laid, first-place, all-laid, next-place, turn-fits, entry-fits, turn}
 use Rattle.outsheet.proofs.write.put_entries.Statement.{statement}
 use Rattle.outsheet.proofs.write.put_entries.Tie as tie

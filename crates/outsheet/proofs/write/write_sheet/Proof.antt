@@ -9,8 +9,8 @@ use denote.Ref.{now}
 use Rattle.octets.specs.Numbers.{be16}
 use Rattle.octets.specs.Put.{putAt}
 use Rattle.outsheet.specs.Replies.{entryOf, entriesOf}
-use Rattle.outsheet.specs.Plan.{itemsOf}
-use Rattle.outsheet.proofs.PlanLaws.{items-few}
+use Rattle.plan.specs.Plan.{itemsOf}
+use Rattle.plan.proofs.PlanLaws.{items-few}
 use Rattle.outsheet.proofs.SheetLaws.{wrote-sheet}
 use borrow.Author.Needs.{needs}
 use Rattle.outsheet.proofs.write.write_sheet.Statement.{statement}

@@ -7,7 +7,7 @@ use Rattle.octets.specs.Search.{countIf}
 use Rattle.model.specs.Row.{isActive}
 use Rattle.model.specs.Line.{accepted}
 use Rattle.table.specs.Block.{farmOf}
-use Rattle.rowwork.specs.Did.{siteSheet}
+use Rattle.rowwork.specs.SiteSheet.{siteSheet}
 use borrow.Author.Needs.{needs}
 use Rattle.rowwork.proofs.decide.by_places.Statement.{statement}
 use Rattle.rowwork.proofs.decide.by_places.Tie as tie

@@ -3,7 +3,7 @@
 use mathlib.Core.Path.{ap, _∙_}
 use Rattle.model.specs.Line.{socketRules}
 use Rattle.table.specs.Block.{farmOf}
-use Rattle.rowwork.specs.Did.{siteSheet}
+use Rattle.rowwork.specs.SiteSheet.{siteSheet}
 use borrow.Author.Needs.{needs}
 use Rattle.rowwork.proofs.decide.rules_for.Statement.{statement}
 use Rattle.rowwork.proofs.decide.rules_for.Tie as tie

@@ -5,7 +5,7 @@ use native.Mathlib.Omega.{arith}
 use Rattle.model.specs.Row.{activeAs}
 use Rattle.model.specs.Line.{byHolder, socketRules}
 use Rattle.table.specs.Block.{farmOf}
-use Rattle.rowwork.specs.Did.{siteSheet}
+use Rattle.rowwork.specs.SiteSheet.{siteSheet}
 use Rattle.rowwork.proofs.RowLaws.{nine, found-below}
 use borrow.Author.Needs.{needs}
 use Rattle.rowwork.proofs.decide.socket_rules.Statement.{statement}

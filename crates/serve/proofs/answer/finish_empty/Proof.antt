@@ -8,7 +8,7 @@ use Rattle.serve.proofs.answer.finish_empty.Tie as tie
 use Rattle.serve.proofs.answer.finish_empty.Reads as reads
 use Rattle.serve.proofs.answer.finish_empty.Lts as lts
 use Rattle.serve.proofs.answer.finish_short.Reads as finish-short-reads
-use Rattle.outsheet.proofs.plan.empty.Reads as empty-reads
+use Rattle.plan.proofs.empty.Reads as empty-reads
 
 slice-aggregate-p : tie.Need-slice-aggregate-p
 slice-aggregate-p c = search needs

@@ -4,9 +4,10 @@ use mathlib.Core.Path.{sym, subst}
 use mathlib.Core.List.{List}
 use Prim.Native.Nat.{ℕ}
 use Rattle.model.specs.Move.{linkGone}
-use Rattle.outsheet.specs.Plan.{PlanOk}
+use Rattle.plan.specs.Plan.{PlanOk}
 use Rattle.table.specs.Block.{Whole}
-use Rattle.rowwork.specs.Did.{siteSheet, RowsFit}
+use Rattle.rowwork.specs.SiteSheet.{siteSheet}
+use Rattle.rowwork.specs.Did.{RowsFit}
 use Rattle.serve.proofs.BlockLaws.{lent-is, did-lent}
 use borrow.Author.Needs.{needs}
 use Rattle.serve.proofs.closed.link_lost_at.Statement.{statement}

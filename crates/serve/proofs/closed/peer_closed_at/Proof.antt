@@ -5,10 +5,11 @@ use mathlib.Core.Path.{sym, subst}
 use mathlib.Core.List.{List}
 use Prim.Native.Nat.{ℕ}
 use Rattle.model.specs.Move.{peerGone}
-use Rattle.outsheet.specs.Plan.{PlanOk}
+use Rattle.plan.specs.Plan.{PlanOk}
 use Rattle.table.specs.Layout.{seats}
 use Rattle.table.specs.Block.{farmOf, Whole}
-use Rattle.rowwork.specs.Did.{siteSheet, RowsFit, Seated}
+use Rattle.rowwork.specs.SiteSheet.{siteSheet}
+use Rattle.rowwork.specs.Did.{RowsFit, Seated}
 use Rattle.serve.proofs.BlockLaws.{lent-is, did-lent}
 use borrow.Author.Needs.{needs}
 use Rattle.serve.proofs.closed.peer_closed_at.Statement.{statement}

@@ -3,8 +3,8 @@
 use mathlib.Core.Path.{sym, subst}
 use native.Mathlib.Omega.{arith}
 use Rattle.kinds.specs.declared.Answer.{Answer}
-use Rattle.outsheet.specs.Plan.{Said}
-use Rattle.outsheet.proofs.PlanLaws.{said-more}
+use Rattle.plan.specs.Plan.{Said}
+use Rattle.plan.proofs.PlanLaws.{said-more}
 use Rattle.model.specs.Move.{noRow, answers}
 use borrow.Author.Needs.{needs}
 use Rattle.serve.proofs.datagrams.push_answer.Statement.{statement}

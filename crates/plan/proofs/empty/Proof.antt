@@ -1,10 +1,10 @@
 -- `plan::empty` meets its contract: a plan whose count is 0 says nothing.
 -- Assumes nothing.
 use denote.Ref.{now}
-use Rattle.outsheet.proofs.PlanLaws.{cleared}
+use Rattle.plan.proofs.PlanLaws.{cleared}
 use borrow.Author.Needs.{needs}
-use Rattle.outsheet.proofs.plan.empty.Statement.{statement}
-use Rattle.outsheet.proofs.plan.empty.Tie as tie
+use Rattle.plan.proofs.empty.Statement.{statement}
+use Rattle.plan.proofs.empty.Tie as tie
 
 slice-write-p : tie.Need-slice-write-p
 slice-write-p c = search needs

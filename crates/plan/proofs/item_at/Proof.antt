@@ -7,11 +7,11 @@ use native.Mathlib.Omega.{arith}
 use lib.ListN.{getD}
 use denote.Ref.{now}
 use Rattle.octets.specs.Numbers.{u16At}
-use Rattle.outsheet.specs.Plan.{itemSize, replyFrom}
-use Rattle.outsheet.proofs.PlanLaws.{item-read}
+use Rattle.plan.specs.Plan.{itemSize, replyFrom}
+use Rattle.plan.proofs.PlanLaws.{item-read}
 use borrow.Author.Needs.{needs}
-use Rattle.outsheet.proofs.plan.item_at.Statement.{statement}
-use Rattle.outsheet.proofs.plan.item_at.Tie as tie
+use Rattle.plan.proofs.item_at.Statement.{statement}
+use Rattle.plan.proofs.item_at.Tie as tie
 
 mul-at : tie.Need-mul-at
 mul-at c = omega (arith, c .before .pre)

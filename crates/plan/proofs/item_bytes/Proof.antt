@@ -6,10 +6,10 @@ use Prim.Native.Nat.{ℕ, _*_}
 use Rattle.kinds.specs.declared.Reply.{Reply}
 use Rattle.kinds.specs.declared.Reply.the-variants.{Status}
 use Rattle.kinds.specs.declared.Item.{Item}
-use Rattle.outsheet.specs.Plan.{tagged, replyImage, itemImage}
+use Rattle.plan.specs.Plan.{tagged, replyImage, itemImage}
 use borrow.Author.Needs.{needs}
-use Rattle.outsheet.proofs.plan.item_bytes.Statement.{statement}
-use Rattle.outsheet.proofs.plan.item_bytes.Tie as tie
+use Rattle.plan.proofs.item_bytes.Statement.{statement}
+use Rattle.plan.proofs.item_bytes.Tie as tie
 
 -- an arm that lays out its reply lays out the item
 image-of : (it : Item) (r : Reply) (s : List ℕ) → it .reply ≡ r → s ≡ it .row .0 ∷ it .version ∷ replyImage r → s ≡ itemImage it

@@ -19,7 +19,7 @@ use Rattle.octets.proofs.PartsLaws.{part-same, parts-before, parts-snoc, parts-
 use Rattle.kinds.specs.declared.Reply.{Reply}
 use Rattle.kinds.specs.declared.Reply.the-variants.{Nack, Identity, Activation, AliveCheck, Status, PowerMode, Message, Ack, DiagnosticNack, Close, HandOn}
 use Rattle.kinds.specs.declared.Item.{Item}
-use Rattle.outsheet.specs.Plan.{planRoom, itemSize, planSize, replyImage, itemImage, replyFrom, itemFrom, itemAt, countOf, itemsOf, noItem, PlanOk, Said, pushedTo}
+use Rattle.plan.specs.Plan.{planRoom, itemSize, planSize, replyImage, itemImage, replyFrom, itemFrom, itemAt, countOf, itemsOf, noItem, PlanOk, Said, pushedTo}
 
 -- ---- an item and its bytes
 

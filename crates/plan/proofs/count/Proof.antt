@@ -2,10 +2,10 @@
 -- Assumes nothing.
 use native.Mathlib.Omega.{arith}
 use denote.Ref.{now}
-use Rattle.outsheet.proofs.PlanLaws.{count-items}
+use Rattle.plan.proofs.PlanLaws.{count-items}
 use borrow.Author.Needs.{needs}
-use Rattle.outsheet.proofs.plan.count.Statement.{statement}
-use Rattle.outsheet.proofs.plan.count.Tie as tie
+use Rattle.plan.proofs.count.Statement.{statement}
+use Rattle.plan.proofs.count.Tie as tie
 
 shared-slice-read-n : tie.Need-shared-slice-read-n
 shared-slice-read-n c = search needs

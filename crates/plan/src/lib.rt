@@ -6,7 +6,7 @@ ghost use mathlib.Core.Path.{_≡_};
 ghost use Prim.Native.Nat.{_+_, _*_, _≤_};
 ghost use mathlib.Core.List.{[], _∷_};
 ghost use lib.ListN.{length};
-ghost use Rattle.outsheet.specs.Plan.{planSize, itemSize, tagged, itemImage, replyFrom, itemAt, itemsOf, PlanOk, Said, pushedTo};
+ghost use Rattle.plan.specs.Plan.{planSize, itemSize, tagged, itemImage, replyFrom, itemAt, itemsOf, PlanOk, Said, pushedTo};
 
 // The most items of a plan, and the bytes of one.
 const ROOM: u8 = 72;

@@ -6,11 +6,11 @@ use Prim.Native.Nat.{ℕ, _+_, _*_}
 use lib.ListN.{getD}
 use denote.Ref.{now}
 use Rattle.octets.specs.Put.{putAt}
-use Rattle.outsheet.specs.Plan.{itemSize}
-use Rattle.outsheet.proofs.PlanLaws.{push-full, push-more}
+use Rattle.plan.specs.Plan.{itemSize}
+use Rattle.plan.proofs.PlanLaws.{push-full, push-more}
 use borrow.Author.Needs.{needs}
-use Rattle.outsheet.proofs.plan.push.Statement.{statement}
-use Rattle.outsheet.proofs.plan.push.Tie as tie
+use Rattle.plan.proofs.push.Statement.{statement}
+use Rattle.plan.proofs.push.Tie as tie
 
 slice-read-n : tie.Need-slice-read-n
 slice-read-n c = search needs

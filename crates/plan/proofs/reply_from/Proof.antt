@@ -3,8 +3,8 @@
 use Prim.Native.Nat.{ℕ}
 use borrow.Author.Tests.{ne-eqb}
 use borrow.Author.Needs.{needs}
-use Rattle.outsheet.proofs.plan.reply_from.Statement.{statement}
-use Rattle.outsheet.proofs.plan.reply_from.Tie as tie
+use Rattle.plan.proofs.reply_from.Statement.{statement}
+use Rattle.plan.proofs.reply_from.Tie as tie
 
 cast-t7 : tie.Need-cast-t7
 cast-t7 c = search needs
