@@ -20,7 +20,7 @@ use Rattle.model.specs.Farm.{Farm, says}
 use Rattle.model.specs.Move.{Held, Move, refused, mostUser, isTarget, toTester, controllerMove}
 use Rattle.model.specs.Table.{itemsBy}
 use Rattle.plan.specs.Plan.{itemsOf, PlanOk, Said, pushedTo}
-use Rattle.rowwork.specs.SiteSheet.{siteSheet}
+use Rattle.decide.specs.SiteSheet.{siteSheet}
 use Rattle.rowwork.specs.Did.{pushedAll}
 use Rattle.rowwork.proofs.DidLaws.{pushed-none, pushed-one}
 use Rattle.site.specs.Site.{Sited}

@@ -12,7 +12,7 @@ use Rattle.octets.specs.Search.{firstAt}
 use Rattle.model.specs.Row.{isFree}
 use Rattle.table.specs.Layout.{seats}
 use Rattle.table.specs.Block.{farmOf}
-use Rattle.rowwork.proofs.RowLaws.{nine, found-below}
+use Rattle.decide.proofs.RowLaws.{nine, found-below}
 use Rattle.farm.specs.Moves.{Connected}
 
 pub own-many : (b : List ℕ) (rows : ℕ) → rows ≤ seats → length (take rows (farmOf b .rows)) ≡ rows

@@ -17,7 +17,7 @@ use Rattle.model.specs.Move.{clockRun, aged}
 use Rattle.rowbytes.specs.RowBytes.{stateTicked, ticked}
 use Rattle.table.specs.Layout.{seats}
 use Rattle.table.specs.Block.{farmOf, Whole, Holds}
-use Rattle.rowwork.proofs.RowLaws.{nine}
+use Rattle.decide.proofs.RowLaws.{nine}
 
 -- ---- the check clock
 

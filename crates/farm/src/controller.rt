@@ -13,7 +13,6 @@ use kinds::FarmNo;
 use kinds::Reply;
 use kinds::Site;
 use octets::Found;
-use rowwork::decide;
 use rowwork::say;
 use sheet::find;
 

@@ -6,7 +6,7 @@ ghost use Rattle.model.specs.Move.{clockRun, aged, ticked};
 ghost use Rattle.plan.specs.Plan.{PlanOk};
 ghost use Rattle.table.specs.Layout.{seats};
 ghost use Rattle.table.specs.Block.{farmOf, Whole, Holds};
-ghost use Rattle.rowwork.specs.SiteSheet.{siteSheet};
+ghost use Rattle.decide.specs.SiteSheet.{siteSheet};
 ghost use Rattle.rowwork.specs.Did.{RowsFit, Seated, Did};
 use kinds::RowState;
 use kinds::Site;

@@ -35,7 +35,7 @@ use Rattle.model.proofs.SameSite.{SameSite, settle-same}
 use Rattle.model.proofs.Settling.{started-farm}
 use Rattle.table.specs.Layout.{seats}
 use Rattle.table.specs.Block.{farmOf, Holds}
-use Rattle.rowwork.specs.SiteSheet.{siteSheet}
+use Rattle.decide.specs.SiteSheet.{siteSheet}
 use Rattle.rowwork.specs.Did.{Seated, Did}
 use Rattle.rowwork.proofs.DidLaws.{did-same, did-then, did-after}
 use Rattle.messages.specs.Length.{EndsWell}

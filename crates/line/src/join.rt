@@ -6,14 +6,13 @@ ghost use Rattle.model.specs.Line.{joined, left, isAsked, marked};
 ghost use Rattle.plan.specs.Plan.{PlanOk};
 ghost use Rattle.table.specs.Layout.{seats, blockSize};
 ghost use Rattle.table.specs.Block.{farmOf, Whole, Holds};
-ghost use Rattle.rowwork.specs.SiteSheet.{siteSheet};
+ghost use Rattle.decide.specs.SiteSheet.{siteSheet};
 ghost use Rattle.rowwork.specs.Did.{RowsFit, Did};
 use kinds::Decision;
 use kinds::Request;
 use kinds::RowState;
 use kinds::Site;
 use rowwork::check;
-use rowwork::decide;
 use rowwork::say;
 
 // "A request that needs a check joins the end of its farm's line, the head being place 1; only the head's check runs."

@@ -6,14 +6,13 @@ ghost use Rattle.model.specs.Farm.{andThen};
 ghost use Rattle.model.specs.Line.{advanced, settleLine, settle};
 ghost use Rattle.plan.specs.Plan.{PlanOk};
 ghost use Rattle.table.specs.Block.{farmOf, Whole};
-ghost use Rattle.rowwork.specs.SiteSheet.{siteSheet};
+ghost use Rattle.decide.specs.SiteSheet.{siteSheet};
 ghost use Rattle.rowwork.specs.Did.{RowsFit, Seated, Did};
 ghost use Rattle.line.specs.Verdict.{isPending};
 use kinds::HeadVerdict;
 use kinds::Site;
 use rowwork::answer;
 use rowwork::check;
-use rowwork::decide;
 
 fn is_pending(v: HeadVerdict) -> bool
     ensures { λ r. ⌜ r ≡ isPending v ⌝ }

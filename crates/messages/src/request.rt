@@ -9,7 +9,7 @@ ghost use Rattle.model.specs.Bytes.{decidedBy, requested};
 ghost use Rattle.plan.specs.Plan.{PlanOk};
 ghost use Rattle.table.specs.Layout.{seats, blockSize};
 ghost use Rattle.table.specs.Block.{farmOf, Whole};
-ghost use Rattle.rowwork.specs.SiteSheet.{siteSheet};
+ghost use Rattle.decide.specs.SiteSheet.{siteSheet};
 ghost use Rattle.rowwork.specs.Did.{RowsFit, Did};
 ghost use Rattle.site.specs.Site.{Sited};
 ghost use Rattle.messages.specs.Codes.{againCode};
@@ -20,7 +20,6 @@ use kinds::RowState;
 use kinds::Site;
 use line::join;
 use rowwork::answer;
-use rowwork::decide;
 use sheet::find;
 use sheet::find::Found;
 

@@ -1,3 +1,2 @@
 pub mod DidLaws
-pub mod RowLaws
 pub mod StepLaws

@@ -1,3 +1,2 @@
-pub mod SiteSheet
 pub mod Did
 pub mod Steps

@@ -6,9 +6,8 @@ ghost use Rattle.model.specs.Line.{askedIf, asking, cleared, started, advanced}
 ghost use Rattle.plan.specs.Plan.{PlanOk};
 ghost use Rattle.table.specs.Layout.{seats};
 ghost use Rattle.table.specs.Block.{farmOf, Whole, Holds};
-ghost use Rattle.rowwork.specs.SiteSheet.{siteSheet};
+ghost use Rattle.decide.specs.SiteSheet.{siteSheet};
 ghost use Rattle.rowwork.specs.Did.{RowsFit, Did};
-use crate::decide;
 use crate::say;
 use kinds::Check;
 use kinds::Clock;

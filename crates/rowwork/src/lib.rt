@@ -2,5 +2,4 @@
 pub mod answer; // answer.rt: a request has its answer
 pub mod check; // check.rt: alive checks start
 pub mod close; // close.rt: rows close
-pub mod decide; // decide.rt: what a request gets
 pub mod say; // say.rt: an entry on one of the farm's rows

@@ -22,7 +22,7 @@ use Rattle.model.specs.Line.{headVerdict, isMarked, isAsked}
 use Rattle.model.specs.RuleTest.{isPending, headKeeps, goodFarm}
 use Rattle.model.proofs.SameSite.{SameSite, verdict-same, is-asked-same}
 use Rattle.model.proofs.SameRule.{SameRule, good-same}
-use Rattle.rowwork.specs.SiteSheet.{siteSheet}
+use Rattle.decide.specs.SiteSheet.{siteSheet}
 use Rattle.site.specs.Site.{siteOf, Sited}
 use Rattle.rules.specs.Rules.{testerIn, ruleSheet}
 

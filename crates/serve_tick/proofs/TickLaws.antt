@@ -27,7 +27,7 @@ use Rattle.model.proofs.RuleKept.{GoodAll}
 use Rattle.model.proofs.SameSite.{ticked-same}
 use Rattle.table.specs.Block.{farmOf, image, Whole, Holds}
 use Rattle.table.proofs.BlockLaws.{exact}
-use Rattle.rowwork.specs.SiteSheet.{siteSheet}
+use Rattle.decide.specs.SiteSheet.{siteSheet}
 use Rattle.rowwork.specs.Did.{pushedAll}
 use Rattle.rowwork.proofs.DidLaws.{pushed-none, pushed-append, pushed-first}
 use Rattle.site.specs.Site.{Sited}

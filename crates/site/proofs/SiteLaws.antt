@@ -11,7 +11,7 @@ use Rattle.model.specs.FarmSheet.{FarmSheet, farmSheet}
 use Rattle.model.proofs.SameSite.{SameSite}
 use Rattle.sheet.proofs.RowsLaws.{first-few, owned-few, rows-within, rows-few}
 use Rattle.table.specs.Layout.{seats}
-use Rattle.rowwork.specs.SiteSheet.{siteSheet}
+use Rattle.decide.specs.SiteSheet.{siteSheet}
 use Rattle.rowwork.specs.Did.{RowsFit}
 use Rattle.site.specs.Site.{siteOf, Sited}
 

@@ -11,7 +11,7 @@ use Rattle.octets.proofs.SearchLaws.{count-here, count-next, count-end}
 use Rattle.kinds.specs.declared.Row.{Row}
 use Rattle.model.specs.Row.{freeRow, isOpen}
 use Rattle.table.specs.Block.{farmOf}
-use Rattle.rowwork.proofs.RowLaws.{nine}
+use Rattle.decide.proofs.RowLaws.{nine}
 use borrow.Author.Needs.{needs}
 use Rattle.farm.proofs.ask.open_rows.Statement.{statement}
 use Rattle.farm.proofs.ask.open_rows.Tie as tie

@@ -7,7 +7,7 @@ use Rattle.model.specs.Line.{settle, left}
 use Rattle.model.specs.Move.{peerGone}
 use Rattle.model.proofs.Seats.{closed-line}
 use Rattle.table.specs.Block.{farmOf}
-use Rattle.rowwork.specs.SiteSheet.{siteSheet}
+use Rattle.decide.specs.SiteSheet.{siteSheet}
 use Rattle.rowwork.specs.Did.{Seated}
 use Rattle.rowwork.proofs.DidLaws.{did-then}
 use Rattle.farm.proofs.SeatedLaws.{left-seated}

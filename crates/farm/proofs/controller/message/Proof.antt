@@ -7,7 +7,7 @@ use Rattle.octets.specs.declared.Found.the-variants.{Nothing}
 use Rattle.model.specs.FarmSheet.{FarmSheet, farmSheet}
 use Rattle.model.specs.Row.{activeAs}
 use Rattle.table.specs.Block.{farmOf}
-use Rattle.rowwork.proofs.RowLaws.{nine, found-below}
+use Rattle.decide.proofs.RowLaws.{nine, found-below}
 use Rattle.site.proofs.SiteLaws.{sited-fit}
 use Rattle.farm.proofs.MessageLaws.{wrong-size, no-target, for-tester, messaged-refused, messaged-said}
 use borrow.Author.Needs.{needs}

@@ -9,7 +9,7 @@ use Rattle.model.specs.Farm.{Farm, closedWhere}
 use Rattle.model.specs.Line.{settle}
 use Rattle.model.specs.Move.{clockRun, aged, ticked}
 use Rattle.table.specs.Block.{farmOf}
-use Rattle.rowwork.specs.SiteSheet.{siteSheet}
+use Rattle.decide.specs.SiteSheet.{siteSheet}
 use Rattle.rowwork.specs.Did.{Seated}
 use Rattle.rowwork.proofs.DidLaws.{did-same, did-then}
 use Rattle.farm.proofs.SeatedLaws.{closings-line, clock-line}

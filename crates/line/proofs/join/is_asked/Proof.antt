@@ -9,7 +9,7 @@ use Rattle.model.specs.Row.{rowAt, wanted}
 use Rattle.model.specs.Farm.{Farm}
 use Rattle.model.specs.Line.{socketRules, askedBy}
 use Rattle.table.specs.Block.{farmOf}
-use Rattle.rowwork.specs.SiteSheet.{siteSheet}
+use Rattle.decide.specs.SiteSheet.{siteSheet}
 use Rattle.line.proofs.LineLaws.{asked-none, asked-head}
 use borrow.Author.Needs.{needs}
 use Rattle.line.proofs.join.is_asked.Statement.{statement}

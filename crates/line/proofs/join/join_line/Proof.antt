@@ -9,7 +9,7 @@ use Rattle.model.specs.Row.{waitingRow}
 use Rattle.model.specs.Farm.{Farm, withRow, withLine}
 use Rattle.model.specs.Line.{started}
 use Rattle.table.specs.Block.{farmOf}
-use Rattle.rowwork.specs.SiteSheet.{siteSheet}
+use Rattle.decide.specs.SiteSheet.{siteSheet}
 use Rattle.rowwork.proofs.DidLaws.{did-same, did-quietly}
 use Rattle.line.proofs.LineLaws.{joined-first, joined-behind}
 use borrow.Author.Needs.{needs}

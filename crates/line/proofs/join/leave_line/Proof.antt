@@ -5,7 +5,7 @@ use lib.ListN.{length}
 use Rattle.model.specs.FarmSheet.{FarmSheet}
 use Rattle.model.specs.Farm.{Farm}
 use Rattle.table.specs.Block.{farmOf}
-use Rattle.rowwork.specs.SiteSheet.{siteSheet}
+use Rattle.decide.specs.SiteSheet.{siteSheet}
 use Rattle.rowwork.proofs.DidLaws.{did-same, did-quietly, did-nothing}
 use Rattle.line.proofs.LineLaws.{left-none, left-head, left-behind}
 use borrow.Author.Needs.{needs}

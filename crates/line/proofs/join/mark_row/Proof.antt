@@ -8,7 +8,7 @@ use borrow.Author.Tests.{not-true, not-false}
 use Rattle.model.specs.FarmSheet.{FarmSheet}
 use Rattle.model.specs.Farm.{Farm, withMarks}
 use Rattle.table.specs.Block.{farmOf}
-use Rattle.rowwork.specs.SiteSheet.{siteSheet}
+use Rattle.decide.specs.SiteSheet.{siteSheet}
 use Rattle.line.proofs.LineLaws.{marked-stranger, marked-unasked, marked-yes}
 use borrow.Author.Needs.{needs}
 use Rattle.line.proofs.join.mark_row.Statement.{statement}

@@ -12,7 +12,7 @@ use Rattle.model.specs.Row.{rowAt, wanted}
 use Rattle.model.specs.Farm.{Farm, andThen}
 use Rattle.model.specs.Line.{advanced, headVerdict, settleLine}
 use Rattle.table.specs.Block.{farmOf}
-use Rattle.rowwork.specs.SiteSheet.{siteSheet}
+use Rattle.decide.specs.SiteSheet.{siteSheet}
 use Rattle.rowwork.specs.Did.{Seated}
 use Rattle.rowwork.specs.Steps.{acted}
 use Rattle.rowwork.proofs.DidLaws.{did-same, did-nothing, did-then, then-assoc}
@@ -30,8 +30,8 @@ use Rattle.line.proofs.settle.+advance_line+decide_head.Lts-decide_head
 use Rattle.line.proofs.settle.is_pending.Reads as is-pending-reads
 use Rattle.rowwork.proofs.answer.act.Reads as act-reads
 use Rattle.rowwork.proofs.check.advance.Reads as advance-reads
-use Rattle.rowwork.proofs.decide.head_verdict.Reads as head-verdict-reads
-use Rattle.rowwork.proofs.decide.wanted.Reads as wanted-reads
+use Rattle.decide.proofs.head_verdict.Reads as head-verdict-reads
+use Rattle.decide.proofs.wanted.Reads as wanted-reads
 use Rattle.table.proofs.line.seat_at.Reads as seat-at-reads
 use Rattle.table.proofs.line.waiting.Reads as waiting-reads
 use Rattle.line.proofs.settle.+advance_line+decide_head.{statement}

@@ -7,7 +7,7 @@ use Rattle.kinds.specs.declared.Reply.the-variants.{Ack, DiagnosticNack, HandOn
 use Rattle.model.specs.FarmSheet.{FarmSheet}
 use Rattle.model.specs.Farm.{says}
 use Rattle.plan.specs.Plan.{itemsOf, pushedTo}
-use Rattle.rowwork.specs.SiteSheet.{siteSheet}
+use Rattle.decide.specs.SiteSheet.{siteSheet}
 use Rattle.rowwork.specs.Did.{pushedAll}
 use Rattle.rowwork.proofs.DidLaws.{pushed-one}
 use Rattle.messages.proofs.DiagnosticLaws.{said-twice, replies-on, replies-refused}

@@ -8,7 +8,7 @@ use Rattle.wire.specs.Header.{codeOf}
 use Rattle.model.specs.FarmSheet.{FarmSheet}
 use Rattle.model.specs.Farm.{Farm}
 use Rattle.table.specs.Block.{farmOf}
-use Rattle.rowwork.specs.SiteSheet.{siteSheet}
+use Rattle.decide.specs.SiteSheet.{siteSheet}
 use Rattle.rowwork.proofs.DidLaws.{did-same}
 use Rattle.messages.specs.Codes.{refusedBy}
 use borrow.Author.Needs.{needs}

@@ -13,7 +13,7 @@ use Rattle.model.specs.Line.{marked}
 use Rattle.model.specs.Bytes.{requested, diagnosed}
 use Rattle.model.proofs.SameSite.{marked-same}
 use Rattle.table.specs.Block.{farmOf}
-use Rattle.rowwork.specs.SiteSheet.{siteSheet}
+use Rattle.decide.specs.SiteSheet.{siteSheet}
 use Rattle.rowwork.proofs.DidLaws.{did-same, did-quietly, did-nothing}
 use Rattle.site.proofs.SiteLaws.{sited-same}
 use Rattle.messages.proofs.LengthLaws.{request-long, response-long, diagnostic-long, payload-length}

@@ -4,7 +4,7 @@ use mathlib.Core.Path.{refl}
 use Rattle.model.specs.FarmSheet.{FarmSheet}
 use Rattle.model.specs.Farm.{Farm, closed}
 use Rattle.table.specs.Block.{farmOf}
-use Rattle.rowwork.specs.SiteSheet.{siteSheet}
+use Rattle.decide.specs.SiteSheet.{siteSheet}
 use Rattle.rowwork.proofs.DidLaws.{did-same, did-says, did-then}
 use Rattle.messages.proofs.DiagnosticLaws.{refused-closes, refused-stays}
 use borrow.Author.Needs.{needs}

@@ -3,7 +3,7 @@
 use mathlib.Core.Path.{sym, ap, _∙_}
 use Rattle.model.specs.Line.{byState}
 use Rattle.table.specs.Block.{farmOf}
-use Rattle.rowwork.specs.SiteSheet.{siteSheet}
+use Rattle.decide.specs.SiteSheet.{siteSheet}
 use Rattle.messages.proofs.RequestLaws.{state-active}
 use borrow.Author.Needs.{needs}
 use Rattle.messages.proofs.request.by_state.Statement.{statement}

@@ -8,7 +8,7 @@ use Rattle.model.specs.Row.{rowAt}
 use mathlib.Core.Path.{sym, _∙_}
 use Rattle.model.specs.FarmSheet.{farmSheet}
 use Rattle.table.specs.Block.{farmOf}
-use Rattle.rowwork.specs.SiteSheet.{siteSheet}
+use Rattle.decide.specs.SiteSheet.{siteSheet}
 use Rattle.site.proofs.SiteLaws.{sited-same}
 use Rattle.messages.proofs.RequestLaws.{decide-nobody, decide-other, decide-type, decide-state, state-same}
 use borrow.Author.Needs.{needs}

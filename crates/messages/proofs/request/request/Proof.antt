@@ -6,7 +6,7 @@ use Rattle.model.specs.FarmSheet.{FarmSheet, farmSheet}
 use Rattle.model.specs.Farm.{Farm}
 use Rattle.model.specs.Bytes.{decidedBy, requested}
 use Rattle.table.specs.Block.{farmOf}
-use Rattle.rowwork.specs.SiteSheet.{siteSheet}
+use Rattle.decide.specs.SiteSheet.{siteSheet}
 use Rattle.rowwork.proofs.DidLaws.{did-same}
 use Rattle.site.proofs.SiteLaws.{sited-same, sited-fit}
 use Rattle.messages.proofs.RequestLaws.{decided-same}

@@ -7,7 +7,7 @@ use Rattle.model.specs.Row.{rowOf}
 use Rattle.model.specs.Farm.{Farm, withRow, closed}
 use Rattle.model.specs.Line.{accepted}
 use Rattle.table.specs.Block.{farmOf}
-use Rattle.rowwork.specs.SiteSheet.{siteSheet}
+use Rattle.decide.specs.SiteSheet.{siteSheet}
 use Rattle.rowwork.proofs.DidLaws.{did-same, did-says, did-then}
 use Rattle.rowwork.proofs.StepLaws.{answered-yes, answered-no}
 use Rattle.kinds.specs.declared.RowState.the-variants.{Active}

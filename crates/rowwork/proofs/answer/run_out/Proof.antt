@@ -7,7 +7,7 @@ use Rattle.model.specs.FarmSheet.{FarmSheet}
 use Rattle.model.specs.Farm.{Farm, closedWhere}
 use Rattle.model.specs.Line.{accepted, isSilent, answered}
 use Rattle.table.specs.Block.{farmOf}
-use Rattle.rowwork.specs.SiteSheet.{siteSheet}
+use Rattle.decide.specs.SiteSheet.{siteSheet}
 use Rattle.rowwork.proofs.DidLaws.{did-same, did-then}
 use borrow.Author.Needs.{needs}
 use Rattle.rowwork.proofs.answer.run_out.Statement.{statement}

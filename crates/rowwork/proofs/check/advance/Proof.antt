@@ -1,7 +1,7 @@
 -- `check::advance` meets its contract.
 -- Assumes nothing.
 use Rattle.model.specs.Line.{started, advanced}
-use Rattle.rowwork.specs.SiteSheet.{siteSheet}
+use Rattle.decide.specs.SiteSheet.{siteSheet}
 use Rattle.rowwork.proofs.DidLaws.{did-after}
 use borrow.Author.Needs.{needs}
 use Rattle.rowwork.proofs.check.advance.Statement.{statement}

@@ -7,7 +7,7 @@ use Rattle.model.specs.Farm.{seatCount}
 use Rattle.model.specs.Line.{askedIf}
 use Rattle.model.proofs.Seats.{seatsTo}
 use Rattle.table.specs.Block.{farmOf}
-use Rattle.rowwork.specs.SiteSheet.{siteSheet}
+use Rattle.decide.specs.SiteSheet.{siteSheet}
 use Rattle.rowwork.specs.Did.{Did}
 use Rattle.rowwork.proofs.DidLaws.{did-start, did-seat, did-all}
 use borrow.Author.Needs.{needs}

@@ -3,7 +3,7 @@
 use mathlib.Core.Path.{refl, sym, _∙_}
 use Rattle.model.specs.Farm.{Farm}
 use Rattle.table.specs.Block.{farmOf}
-use Rattle.rowwork.specs.SiteSheet.{siteSheet}
+use Rattle.decide.specs.SiteSheet.{siteSheet}
 use Rattle.rowwork.proofs.DidLaws.{did-same, did-nothing, did-says}
 use Rattle.rowwork.proofs.StepLaws.{asked-yes, asked-no}
 use borrow.Author.Needs.{needs}

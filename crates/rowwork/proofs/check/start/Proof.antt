@@ -9,7 +9,7 @@ use Rattle.model.specs.Row.{rowAt, wanted}
 use Rattle.model.specs.Farm.{Farm}
 use Rattle.model.specs.Line.{socketRules, asking, cleared}
 use Rattle.table.specs.Block.{farmOf}
-use Rattle.rowwork.specs.SiteSheet.{siteSheet}
+use Rattle.decide.specs.SiteSheet.{siteSheet}
 use Rattle.rowwork.proofs.DidLaws.{did-same, did-quietly}
 use Rattle.rowwork.proofs.StepLaws.{started-none, started-head}
 use borrow.Author.Needs.{needs}

@@ -6,7 +6,7 @@ use native.Mathlib.Omega.{arith}
 use Rattle.model.specs.Farm.{seatCount, closedIf}
 use Rattle.model.proofs.Seats.{seatsTo}
 use Rattle.table.specs.Block.{farmOf}
-use Rattle.rowwork.specs.SiteSheet.{siteSheet}
+use Rattle.decide.specs.SiteSheet.{siteSheet}
 use Rattle.rowwork.specs.Did.{Did}
 use Rattle.rowwork.specs.Steps.{closesBy}
 use Rattle.rowwork.proofs.DidLaws.{did-start, did-seat, did-all}

@@ -1,6 +1,6 @@
 -- `say::say` meets its contract.
 -- Assumes nothing.
-use Rattle.rowwork.specs.SiteSheet.{siteSheet}
+use Rattle.decide.specs.SiteSheet.{siteSheet}
 use borrow.Author.Needs.{needs}
 use Rattle.rowwork.proofs.say.say.Statement.{statement}
 use Rattle.rowwork.proofs.say.say.Tie as tie

@@ -14,7 +14,7 @@ use Rattle.model.specs.Farm.{Farm, seatCount}
 use Rattle.model.specs.RuleTest.{goodFarm}
 use Rattle.table.specs.Block.{farmOf}
 use Rattle.table.proofs.MarkLaws.{marks-seats}
-use Rattle.rowwork.proofs.RowLaws.{nine}
+use Rattle.decide.proofs.RowLaws.{nine}
 use Rattle.rules.specs.Rules.{ruleSheet}
 use Rattle.rules.proofs.FarmLaws.{head-carried}
 use borrow.Author.Needs.{needs}

@@ -9,7 +9,7 @@ use Rattle.octets.specs.Search.{some}
 use Rattle.octets.proofs.SearchLaws.{some-here, some-next, some-end}
 use Rattle.model.specs.Row.{freeRow, activeAs}
 use Rattle.table.specs.Block.{farmOf}
-use Rattle.rowwork.proofs.RowLaws.{nine}
+use Rattle.decide.proofs.RowLaws.{nine}
 use Rattle.rules.proofs.seat.again_after.Statement.{statement}
 use Rattle.rules.proofs.seat.again_after.Tie as tie
 

@@ -6,7 +6,7 @@ use borrow.Author.Tests.{not-true, not-false}
 use Rattle.octets.specs.Choice.{either}
 use Rattle.model.specs.Line.{isAsked}
 use Rattle.table.specs.Block.{farmOf}
-use Rattle.rowwork.specs.SiteSheet.{siteSheet}
+use Rattle.decide.specs.SiteSheet.{siteSheet}
 use borrow.Author.Needs.{needs}
 use Rattle.rules.proofs.seat.mark_keeps.Statement.{statement}
 use Rattle.rules.proofs.seat.mark_keeps.Tie as tie
