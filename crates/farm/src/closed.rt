@@ -28,6 +28,6 @@ pub fn link_lost(b: &mut [u8], p: &mut [u8], site: Site)
     ensures { λ _. ⌜ Did (now (p .entry)) (now (b .exit)) (now (p .exit)) (linkGone (siteSheet site) (farmOf (now (b .entry)))) ⌝ }
 {
     close::close_open(b, p, site);
-    table::line::clear_line(b);
+    table_line::clear_line(b);
     check::clear(b);
 }

@@ -19,7 +19,7 @@ fn run_clock(b: &mut [u8])
     requires { ⌜ Whole (now b) ⌝ }
     ensures { λ _. ⌜ Holds (now (b .exit)) (clockRun (farmOf (now (b .entry)) .line) (farmOf (now (b .entry)))) ⌝ }
 {
-    if table::line::waiting(b) == 0 {
+    if table_line::waiting(b) == 0 {
         return;
     }
     let c = table::clock::clock_at(b);

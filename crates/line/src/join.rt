@@ -20,9 +20,9 @@ pub fn join_line(b: &mut [u8], p: &mut [u8], site: Site, seat: usize, q: Request
     requires { ⌜ (seat < seats) × (length (farmOf (now b) .line) < seats) × RowsFit site × Whole (now b) × PlanOk (now p) ⌝ }
     ensures { λ _. ⌜ Did (now (p .entry)) (now (b .exit)) (now (p .exit)) (joined (siteSheet site) seat q (farmOf (now (b .entry)))) ⌝ }
 {
-    let n = table::line::waiting(b);
+    let n = table_line::waiting(b);
     table::row::put_row(b, seat, say::row_of(RowState::Waiting(q)));
-    table::line::join(b, seat);
+    table_line::join(b, seat);
     if n == 0 {
         check::start(b, p, site);
     }
@@ -33,16 +33,16 @@ pub fn leave_line(b: &mut [u8], p: &mut [u8], site: Site, seat: usize)
     requires { ⌜ RowsFit site × Whole (now b) × PlanOk (now p) ⌝ }
     ensures { λ _. ⌜ Did (now (p .entry)) (now (b .exit)) (now (p .exit)) (left (siteSheet site) seat (farmOf (now (b .entry)))) ⌝ }
 {
-    let n = table::line::waiting(b);
+    let n = table_line::waiting(b);
     if n == 0 {
         return;
     }
-    let head = table::line::seat_at(b, 0);
+    let head = table_line::seat_at(b, 0);
     if seat == head {
         check::advance(b, p, site);
         return;
     }
-    table::line::leave(b, seat);
+    table_line::leave(b, seat);
 }
 
 // The running check has asked the row.
@@ -50,11 +50,11 @@ pub fn is_asked(b: &[u8], site: Site, seat: usize) -> bool
     requires { ⌜ length (now b) ≡ blockSize ⌝ }
     ensures { λ r. ⌜ r ≡ isAsked (siteSheet site) (farmOf (now (b .entry))) seat ⌝ }
 {
-    let n = table::line::waiting(b);
+    let n = table_line::waiting(b);
     if n == 0 {
         return false;
     }
-    let head = table::line::seat_at(b, 0);
+    let head = table_line::seat_at(b, 0);
     let d = decide::rules_for(b, site, head);
     match d {
         Decision::Now(_) => false,

@@ -28,11 +28,11 @@ fn decide_head(b: &mut [u8], p: &mut [u8], site: Site)
     requires { ⌜ Seated (farmOf (now b) .line) × RowsFit site × Whole (now b) × PlanOk (now p) ⌝ }
     ensures { λ _. ⌜ Did (now (p .entry)) (now (b .exit)) (now (p .exit)) (settleLine (siteSheet site) (farmOf (now (b .entry)) .line) (farmOf (now (b .entry)))) ⌝ }
 {
-    let n = table::line::waiting(b);
+    let n = table_line::waiting(b);
     if n == 0 {
         return;
     }
-    let head = table::line::seat_at(b, 0);
+    let head = table_line::seat_at(b, 0);
     let v = decide::head_verdict(b, site, head);
     if is_pending(v) {
         return;

@@ -61,10 +61,10 @@ pub fn start(b: &mut [u8], p: &mut [u8], site: Site)
     ensures { λ _. ⌜ Did (now (p .entry)) (now (b .exit)) (now (p .exit)) (started (siteSheet site) (farmOf (now (b .entry)))) ⌝ }
 {
     clear(b);
-    if table::line::waiting(b) == 0 {
+    if table_line::waiting(b) == 0 {
         return;
     }
-    let head = table::line::seat_at(b, 0);
+    let head = table_line::seat_at(b, 0);
     let d = decide::rules_for(b, site, head);
     ask_by(b, p, site, d);
 }
@@ -74,6 +74,6 @@ pub fn advance(b: &mut [u8], p: &mut [u8], site: Site)
     requires { ⌜ (0 < length (farmOf (now b) .line)) × RowsFit site × Whole (now b) × PlanOk (now p) ⌝ }
     ensures { λ _. ⌜ Did (now (p .entry)) (now (b .exit)) (now (p .exit)) (advanced (siteSheet site) (drop 1 (farmOf (now (b .entry)) .line)) (farmOf (now (b .entry)))) ⌝ }
 {
-    table::line::pop(b);
+    table_line::pop(b);
     start(b, p, site);
 }

@@ -36,9 +36,9 @@ fn line_seated(b: &[u8]) -> bool
     requires { ⌜ length (now b) ≡ blockSize ⌝ }
     ensures { λ r. ⌜ r ≡ all (λ x. ltb x seats) (farmOf (now (b .entry)) .line) ⌝ }
 {
-    let n = table::line::waiting(b);
+    let n = table_line::waiting(b);
     for k in 0..n {
-        if SEATS <= table::line::seat_at(b, k) {
+        if SEATS <= table_line::seat_at(b, k) {
             return false;
         }
     }
@@ -60,12 +60,12 @@ fn head_keeps(b: &[u8], site: Site) -> bool
     requires { ⌜ length (now b) ≡ blockSize ⌝ }
     ensures { λ r. ⌜ r ≡ headKeeps (siteSheet site) (farmOf (now (b .entry))) (farmOf (now (b .entry)) .line) ⌝ }
 {
-    let n = table::line::waiting(b);
+    let n = table_line::waiting(b);
     if n == 0 {
         let c = table::clock::clock_at(b);
         return c.ticks == 0;
     }
-    let head = table::line::seat_at(b, 0);
+    let head = table_line::seat_at(b, 0);
     let v = decide::head_verdict(b, site, head);
     is_pending(v)
 }

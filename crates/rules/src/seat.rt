@@ -44,10 +44,10 @@ fn times_in(b: &[u8], i: usize) -> usize
     requires { ⌜ length (now b) ≡ blockSize ⌝ }
     ensures { λ r. ⌜ r ≡ times i (farmOf (now (b .entry)) .line) ⌝ }
 {
-    let n = table::line::waiting(b);
+    let n = table_line::waiting(b);
     let mut sum: usize = 0;
     for k in 0..n {
-        if i == table::line::seat_at(b, k) {
+        if i == table_line::seat_at(b, k) {
             sum += 1;
         }
     }

@@ -19,7 +19,7 @@ use Rattle.table.specs.Layout.{seats, metersAt, metersSize, lineAt, line
 use Rattle.table.specs.Block.{metersImage, metersFrom, lineImage, clockImage, clockFrom, isOne, marksImage, marksFrom, farmOf, MetersOk, LineOk, ClockOk, MarksOk, RowsOk}
 use Rattle.table.proofs.ListLaws.{each-back, back-each}
 use Rattle.table.proofs.LineLaws.{padded}
-use Rattle.table.proofs.LineStores.{line-is, few}
+use Rattle.table_line.proofs.LineStores.{line-is, few}
 
 -- ---- meters and clock: any bytes
 

@@ -18,7 +18,7 @@ use Rattle.rowbytes.proofs.RowLaws.{row-long}
 use Rattle.table.specs.Layout.{seats, metersAt, metersSize, lineAt, lineSize, clockAt, clockSize, marksAt, rowsAt, blockSize}
 use Rattle.table.specs.Block.{metersImage, metersFrom, lineImage, lineFrom, clockImage, clockFrom, marksImage, marksFrom, farmOf, image, Whole, wholeBlock}
 use Rattle.table.proofs.LineLaws.{line-long}
-use Rattle.table.proofs.LineStores.{few}
+use Rattle.table_line.proofs.LineStores.{few}
 use Rattle.table.proofs.MarkLaws.{marks-seats}
 use Rattle.table.proofs.BlockLaws.{meters-long, clock-long, marks-long, exact}
 

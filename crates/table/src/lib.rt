@@ -1,6 +1,5 @@
 // One farm's block of the lent table: decoded to values where it is read, laid out where it is stored. No other crate knows a place of it.
 pub mod clock; // clock.rt: the check clock
-pub mod line; // line.rt: the waiting rows
 pub mod marks; // marks.rt: who answered
 pub mod meters; // meters.rt: taken, finished, lost
 pub mod row; // row.rt: the rows

@@ -32,8 +32,8 @@ use Rattle.rowwork.proofs.answer.act.Reads as act-reads
 use Rattle.rowwork.proofs.check.advance.Reads as advance-reads
 use Rattle.decide.proofs.head_verdict.Reads as head-verdict-reads
 use Rattle.decide.proofs.wanted.Reads as wanted-reads
-use Rattle.table.proofs.line.seat_at.Reads as seat-at-reads
-use Rattle.table.proofs.line.waiting.Reads as waiting-reads
+use Rattle.table_line.proofs.seat_at.Reads as seat-at-reads
+use Rattle.table_line.proofs.waiting.Reads as waiting-reads
 use Rattle.line.proofs.settle.+advance_line+decide_head.{statement}
 use Rattle.line.proofs.settle.+advance_line+decide_head.Tie.{close}
 

@@ -12,7 +12,7 @@ use lib.Dec.{eqb}
 use borrow.Author.Tests.{eq-eqb, ne-eqb}
 use Rattle.octets.specs.Search.{countIf}
 use Rattle.octets.proofs.SearchLaws.{count-here, count-next, count-end}
-use Rattle.table.proofs.LineStores.{few}
+use Rattle.table_line.proofs.LineStores.{few}
 use Rattle.rules.proofs.seat.times_in.Statement.{statement}
 use Rattle.rules.proofs.seat.times_in.Tie as tie
 

@@ -1,10 +1,10 @@
 -- `line::pop` meets its contract.
 -- Assumes nothing.
 use native.Mathlib.Omega.{arith}
-use Rattle.table.proofs.LineStores.{few, popped-stored}
+use Rattle.table_line.proofs.LineStores.{few, popped-stored}
 use borrow.Author.Needs.{needs}
-use Rattle.table.proofs.line.pop.Statement.{statement}
-use Rattle.table.proofs.line.pop.Tie as tie
+use Rattle.table_line.proofs.pop.Statement.{statement}
+use Rattle.table_line.proofs.pop.Tie as tie
 
 waiting-requires : tie.Need-waiting-requires
 waiting-requires c κs = search needs

@@ -2,10 +2,10 @@
 -- Assumes nothing.
 use mathlib.Core.Path.{_∙_}
 use native.Mathlib.Omega.{arith}
-use Rattle.table.proofs.LineStores.{seat-read, no-seat, few}
+use Rattle.table_line.proofs.LineStores.{seat-read, no-seat, few}
 use borrow.Author.Needs.{needs}
-use Rattle.table.proofs.line.seat_at.Statement.{statement}
-use Rattle.table.proofs.line.seat_at.Tie as tie
+use Rattle.table_line.proofs.seat_at.Statement.{statement}
+use Rattle.table_line.proofs.seat_at.Tie as tie
 
 waiting-requires : tie.Need-waiting-requires
 waiting-requires c κs = search needs

@@ -5,11 +5,11 @@ use mathlib.Core.List.{List, _∷_}
 use Prim.Native.Nat.{ℕ, _+_}
 use lib.ListN.{set}
 use Rattle.octets.specs.Put.{putAt}
 use Rattle.table.specs.Layout.{lineAt}
-use Rattle.table.proofs.LineStores.{joined-stored}
+use Rattle.table_line.proofs.LineStores.{joined-stored}
 use borrow.Author.Needs.{needs}
-use Rattle.table.proofs.line.join.Statement.{statement}
-use Rattle.table.proofs.line.join.Tie as tie
+use Rattle.table_line.proofs.join.Statement.{statement}
+use Rattle.table_line.proofs.join.Tie as tie
 
 waiting-requires : tie.Need-waiting-requires
 waiting-requires c κs = search needs

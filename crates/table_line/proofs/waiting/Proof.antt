@@ -2,10 +2,10 @@
 -- Assumes nothing.
 use mathlib.Core.Path.{_∙_}
 use native.Mathlib.Omega.{arith}
-use Rattle.table.proofs.LineStores.{some-wait, all-wait}
+use Rattle.table_line.proofs.LineStores.{some-wait, all-wait}
 use borrow.Author.Needs.{needs}
-use Rattle.table.proofs.line.waiting.Statement.{statement}
-use Rattle.table.proofs.line.waiting.Tie as tie
+use Rattle.table_line.proofs.waiting.Statement.{statement}
+use Rattle.table_line.proofs.waiting.Tie as tie
 
 shared-slice-read-wide : tie.Need-shared-slice-read-wide
 shared-slice-read-wide c = search needs

@@ -6,12 +6,12 @@ use Prim.Native.Nat.{ℕ}
 use native.Mathlib.Omega.{arith}
 use lib.ListN.{replicate}
 use Rattle.octets.specs.Parts.{part}
 use Rattle.table.specs.Layout.{seats, seatsAt}
-use Rattle.table.proofs.LineStores.{copied}
+use Rattle.table_line.proofs.LineStores.{copied}
 use Rattle.octets.proofs.PartsLaws.{length-part}
 use borrow.Author.Needs.{needs}
-use Rattle.table.proofs.line.seats_of.Statement.{statement}
-use Rattle.table.proofs.line.seats_of.Tie as tie
+use Rattle.table_line.proofs.seats_of.Statement.{statement}
+use Rattle.table_line.proofs.seats_of.Tie as tie
 
 slice-aggregate-put : tie.Need-slice-aggregate-put
 slice-aggregate-put c = search needs

@@ -4,11 +4,11 @@ use mathlib.Core.Path.{refl}
 use mathlib.Core.List.{[]}
 use native.Mathlib.Omega.{arith}
 use lib.ListN.{replicate}
 use Rattle.table.specs.Layout.{seats}
-use Rattle.table.proofs.LineStores.{line-stored}
+use Rattle.table_line.proofs.LineStores.{line-stored}
 use borrow.Author.Needs.{needs}
-use Rattle.table.proofs.line.clear_line.Statement.{statement}
-use Rattle.table.proofs.line.clear_line.Tie as tie
+use Rattle.table_line.proofs.clear_line.Statement.{statement}
+use Rattle.table_line.proofs.clear_line.Tie as tie
 
 store-requires : tie.Need-store-requires
 store-requires c κs = search needs

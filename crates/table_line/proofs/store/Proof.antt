@@ -5,13 +5,13 @@ use mathlib.Core.List.{List}
 use Prim.Native.Nat.{ℕ}
 use native.Mathlib.Omega.{arith}
 use lib.ListN.{length, set}
 use Rattle.table.specs.Layout.{seats, lineAt, seatsAt}
-use Rattle.table.proofs.LineStores.{stored-two}
+use Rattle.table_line.proofs.LineStores.{stored-two}
 use lib.ListN.{length-set}
 use Rattle.octets.proofs.PutLaws.{length-putAt}
 use borrow.Author.Needs.{needs}
-use Rattle.table.proofs.line.store.Statement.{statement}
-use Rattle.table.proofs.line.store.Tie as tie
+use Rattle.table_line.proofs.store.Statement.{statement}
+use Rattle.table_line.proofs.store.Tie as tie
 
 nine : (c : tie.Start) → length (c .args .t3) ≡ seats
 nine c = search needs

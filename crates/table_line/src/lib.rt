@@ -7,12 +7,12 @@ ghost use Rattle.octets.specs.Put.{putAt};
 ghost use Rattle.octets.specs.Parts.{part};
 ghost use Rattle.model.specs.Farm.{withLine};
 ghost use Rattle.model.specs.Line.{without};
 ghost use Rattle.table.specs.Layout.{seats, lineAt, seatsAt, blockSize};
 ghost use Rattle.table.specs.Block.{farmOf, Whole, Holds};
-use crate::CLOCK;
-use crate::FIRST_SEAT;
-use crate::LINE;
-use crate::SEATS;
+use table::CLOCK;
+use table::FIRST_SEAT;
+use table::LINE;
+use table::SEATS;
 
 // How many wait.
 pub fn waiting(b: &[u8]) -> usize

@@ -6,14 +6,14 @@ use Prim.Native.Nat.{ℕ, _-_, _≤_, _<_}
 use native.Mathlib.Omega.{arith}
 use lib.ListN.{length}
 use Rattle.octets.specs.Parts.{part}
 use Rattle.table.specs.Layout.{seats, seatsAt}
-use Rattle.table.proofs.LineStores.{few, Kept, kept-none, kept-few, kept-drops, kept-keeps, left-stored, kept-as}
+use Rattle.table_line.proofs.LineStores.{few, Kept, kept-none, kept-few, kept-drops, kept-keeps, left-stored, kept-as}
 use Rattle.octets.proofs.PartsLaws.{length-part}
 use borrow.Author.Needs.{needs}
 use mathlib.Core.Logic.{⊎-elim}
 use mathlib.Core.Path.{subst}
-use Rattle.table.proofs.line.leave.Statement.{statement}
-use Rattle.table.proofs.line.leave.Tie as tie
+use Rattle.table_line.proofs.leave.Statement.{statement}
+use Rattle.table_line.proofs.leave.Tie as tie
 
 abbrev Inv-loop : tie.InvT-loop
 Inv-loop b seat n s t₀ k₀ i₀ t k i = (i ≤ n) × Kept seat s i t k
