@@ -18,7 +18,7 @@ use Rattle.model.specs.Rule.{Good}
 use Rattle.model.proofs.RuleTestLaws.{farm-says}
 use Rattle.table.specs.Layout.{blockSize, tableSize}
 use Rattle.table.specs.Block.{farmOf, Whole}
-use Rattle.table.proofs.WholeTest.{whole-says}
+use Rattle.table_whole.proofs.WholeTest.{whole-says}
 use Rattle.rules.specs.Rules.{slotKeeps, tableKeeps}
 
 -- the block of the slot f

@@ -97,7 +97,7 @@ pub fn block_keeps(b: &[u8], s: &[u8], f: FarmNo) -> bool
     requires { ⌜ (length (now b) ≡ blockSize) × GoodSheet (now s) ⌝ }
     ensures { λ r. ⌜ r ≡ both (wholeBlock (now (b .entry))) (goodFarm (slotSheet (now (s .entry)) (f .0)) (farmOf (now (b .entry)))) ⌝ }
 {
-    if !table::whole::is_whole(b) {
+    if !table_whole::is_whole(b) {
         return false;
     }
     if farms::has_farm(s, f) {

@@ -24,7 +24,7 @@ use Rattle.model.specs.Table.{Table, slot, Call, Did, Outcome, refuses, did, no
 use Rattle.model.proofs.RuleTestLaws.{farm-says}
 use Rattle.table.specs.Layout.{blockSize, tableSize}
 use Rattle.table.specs.Block.{farmOf, image, Whole, wholeBlock, Holds}
-use Rattle.table.proofs.WholeTest.{whole-says}
+use Rattle.table_whole.proofs.WholeTest.{whole-says}
 use Rattle.lent.specs.declared.Answer.{Answer}
 use Rattle.lent.specs.Lent.{block, Only, wholeTable, roomSize, heldAt, lentTable, lentStep}
 use Rattle.lent.specs.Gate.{Passed}

@@ -3,7 +3,6 @@ pub mod clock; // clock.rt: the check clock
 pub mod marks; // marks.rt: who answered
 pub mod meters; // meters.rt: taken, finished, lost
 pub mod row; // row.rt: the rows
-pub mod whole; // whole.rt: the test of a block
 
 use rowbytes::ROW;
 

@@ -6,7 +6,7 @@ use borrow.Author.Tests.{ltb-true, ltb-false, not-true, not-false}
 use Rattle.octets.proofs.SaysLaws.{says-same}
 use Rattle.sheet.specs.Sheet.{farmCount}
 use Rattle.table.specs.Block.{farmOf}
-use Rattle.table.proofs.WholeTest.{whole-says}
+use Rattle.table_whole.proofs.WholeTest.{whole-says}
 use Rattle.rules.proofs.FarmLaws.{farm-carried, none-carried}
 use borrow.Author.Needs.{needs}
 use Rattle.rules.proofs.block.block_keeps.Statement.{statement}

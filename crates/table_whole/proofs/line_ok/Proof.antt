@@ -7,10 +7,10 @@ use lib.ListN.{getD}
 use borrow.Author.Needs.{needs}
 use borrow.Author.Count.{below-more}
 use Rattle.octets.proofs.SaysLaws.{says-yes, says-no}
 use Rattle.table.specs.Layout.{seats, lineAt, seatsAt}
-use Rattle.table.proofs.WholeLaws.{line-passes, line-few, line-zeros}
-use Rattle.table.proofs.whole.line_ok.Statement.{statement}
-use Rattle.table.proofs.whole.line_ok.Tie as tie
+use Rattle.table_whole.proofs.WholeLaws.{line-passes, line-few, line-zeros}
+use Rattle.table_whole.proofs.line_ok.Statement.{statement}
+use Rattle.table_whole.proofs.line_ok.Tie as tie
 
 abbrev Inv-loop : tie.InvT-loop
 Inv-loop b n i₀ i = (n ≤ i) × (i ≤ seats) × ((j : ℕ) → j < i → n ≤ j → getD b (seatsAt + j) 0 ≡ 0)

@@ -7,9 +7,9 @@ use lib.ListN.{getD}
 use borrow.Author.Needs.{needs}
 use borrow.Author.Tests.{not-true, not-false}
 use Rattle.octets.proofs.SaysLaws.{says-no, refuted}
-use Rattle.table.proofs.WholeLaws.{any-meters, any-clock}
-use Rattle.table.proofs.whole.is_whole.Statement.{statement}
-use Rattle.table.proofs.whole.is_whole.Tie as tie
+use Rattle.table_whole.proofs.WholeLaws.{any-meters, any-clock}
+use Rattle.table_whole.proofs.is_whole.Statement.{statement}
+use Rattle.table_whole.proofs.is_whole.Tie as tie
 
 returns : tie.Need-returns
 returns c = says-no (λ w. c .if1 .taken (w .long))

@@ -6,10 +6,10 @@ use lib.ListN.{getD}
 use borrow.Author.Needs.{needs}
 use borrow.Author.Count.{below-more}
 use Rattle.octets.proofs.SaysLaws.{says-yes, says-no}
 use Rattle.table.specs.Layout.{seats, marksAt}
-use Rattle.table.proofs.WholeLaws.{marks-pass, marks-bits}
-use Rattle.table.proofs.whole.marks_ok.Statement.{statement}
-use Rattle.table.proofs.whole.marks_ok.Tie as tie
+use Rattle.table_whole.proofs.WholeLaws.{marks-pass, marks-bits}
+use Rattle.table_whole.proofs.marks_ok.Statement.{statement}
+use Rattle.table_whole.proofs.marks_ok.Tie as tie
 
 abbrev Inv-loop : tie.InvT-loop
 Inv-loop b i₀ i = (i ≤ seats) × ((k : ℕ) → k < i → getD b (marksAt + k) 0 ≤ 1)

@@ -13,10 +13,10 @@ use Rattle.octets.proofs.SaysLaws.{says-yes, says-no, refuted}
 use Rattle.octets.proofs.PartsLaws.{part-between}
 use Rattle.rowbytes.specs.RowLayout.{rowSize}
 use Rattle.rowbytes.specs.RowBytes.{RowOk}
 use Rattle.table.specs.Layout.{seats, rowsAt}
-use Rattle.table.proofs.WholeLaws.{rows-pass, rows-each}
-use Rattle.table.proofs.whole.rows_ok.Statement.{statement}
-use Rattle.table.proofs.whole.rows_ok.Tie as tie
+use Rattle.table_whole.proofs.WholeLaws.{rows-pass, rows-each}
+use Rattle.table_whole.proofs.rows_ok.Statement.{statement}
+use Rattle.table_whole.proofs.rows_ok.Tie as tie
 
 abbrev Inv-loop : tie.InvT-loop
 Inv-loop b i₀ i = (i ≤ seats) × ((k : ℕ) → k < i → RowOk (part b (rowsAt + k * rowSize) rowSize))

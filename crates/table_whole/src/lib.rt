@@ -2,14 +2,14 @@
 ghost use mathlib.Core.Path.{_≡_};
 ghost use lib.ListN.{length};
 ghost use Rattle.octets.specs.Says.{Says};
 ghost use Rattle.table.specs.Layout.{blockSize};
 ghost use Rattle.table.specs.Block.{Whole, LineOk, MarksOk, RowsOk};
-use crate::BLOCK;
-use crate::FIRST_SEAT;
-use crate::LINE;
-use crate::MARKS;
-use crate::ROWS;
-use crate::SEATS;
+use table::BLOCK;
+use table::FIRST_SEAT;
+use table::LINE;
+use table::MARKS;
+use table::ROWS;
+use table::SEATS;
 use rowbytes::ROW;
 
 fn line_ok(b: &[u8]) -> bool
