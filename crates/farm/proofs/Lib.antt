@@ -1,4 +1,3 @@
 pub mod RowsLaws
-pub mod TickLaws
 pub mod SeatedLaws
 pub mod MessageLaws

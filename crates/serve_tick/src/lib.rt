@@ -31,7 +31,7 @@ fn tick_at(t: &mut [u8], p: &mut [u8], f: usize, site: Site)
 {
     let a = f * BLOCK;
     let e = a + BLOCK;
-    farm::tick::tick(&mut t[a..e], p, site);
+    farm_tick::tick(&mut t[a..e], p, site);
 }
 
 // The farms of the sheet, one after the other.

@@ -14,7 +14,7 @@ use Rattle.serve_tick.proofs.tick_at.Statement.{statement}
 use Rattle.serve_tick.proofs.tick_at.Tie as tie
 use Rattle.serve_tick.proofs.tick_at.Reads as reads
 use Rattle.serve_tick.proofs.tick_at.Lts as lts
-use Rattle.farm.proofs.tick.tick.Reads as tick-reads
+use Rattle.farm_tick.proofs.tick.Reads as tick-reads
 
 mul-a : tie.Need-mul-a
 mul-a c = search needs

@@ -4,10 +4,10 @@ use mathlib.Core.Path.{sym, ap, _∙_}
 use Rattle.kinds.specs.Clock.{stepped}
 use Rattle.model.specs.Farm.{Farm, withClock}
 use Rattle.table.specs.Block.{farmOf}
-use Rattle.farm.proofs.TickLaws.{clock-still, clock-runs}
+use Rattle.farm_tick.proofs.TickLaws.{clock-still, clock-runs}
 use borrow.Author.Needs.{needs}
-use Rattle.farm.proofs.tick.run_clock.Statement.{statement}
-use Rattle.farm.proofs.tick.run_clock.Tie as tie
+use Rattle.farm_tick.proofs.run_clock.Statement.{statement}
+use Rattle.farm_tick.proofs.run_clock.Tie as tie
 
 waiting-requires : tie.Need-waiting-requires
 waiting-requires c κs = search needs

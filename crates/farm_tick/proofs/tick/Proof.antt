@@ -12,10 +12,10 @@ use Rattle.table.specs.Block.{farmOf}
 use Rattle.decide.specs.SiteSheet.{siteSheet}
 use Rattle.rowwork.specs.Did.{Seated}
 use Rattle.rowwork.proofs.DidLaws.{did-same, did-then}
 use Rattle.farm.proofs.SeatedLaws.{closings-line, clock-line}
 use borrow.Author.Needs.{needs}
-use Rattle.farm.proofs.tick.tick.Statement.{statement}
-use Rattle.farm.proofs.tick.tick.Tie as tie
+use Rattle.farm_tick.proofs.tick.Statement.{statement}
+use Rattle.farm_tick.proofs.tick.Tie as tie
 
 run-clock-requires : tie.Need-run-clock-requires
 run-clock-requires c κs = search needs

@@ -3,10 +3,10 @@
 use mathlib.Core.Path.{refl, sym, _∙_}
 use Rattle.table.specs.Block.{farmOf}
 use Rattle.table.proofs.RowStores.{not-ticked}
-use Rattle.farm.proofs.TickLaws.{older-by, older-fresh, older-active}
+use Rattle.farm_tick.proofs.TickLaws.{older-by, older-fresh, older-active}
 use borrow.Author.Needs.{needs}
-use Rattle.farm.proofs.tick.age_row.Statement.{statement}
-use Rattle.farm.proofs.tick.age_row.Tie as tie
+use Rattle.farm_tick.proofs.age_row.Statement.{statement}
+use Rattle.farm_tick.proofs.age_row.Tie as tie
 
 state-at-requires : tie.Need-state-at-requires
 state-at-requires c κs = search needs

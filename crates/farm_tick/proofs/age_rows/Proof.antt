@@ -5,10 +5,10 @@ use Prim.Native.Nat.{_-_, _≤_}
 use native.Mathlib.Omega.{arith}
 use Rattle.model.specs.Farm.{withRows}
 use Rattle.table.specs.Block.{farmOf, Holds}
-use Rattle.farm.proofs.TickLaws.{firstOlder, aged-none, aged-next, aged-all}
+use Rattle.farm_tick.proofs.TickLaws.{firstOlder, aged-none, aged-next, aged-all}
 use borrow.Author.Needs.{needs}
-use Rattle.farm.proofs.tick.age_rows.Statement.{statement}
-use Rattle.farm.proofs.tick.age_rows.Tie as tie
+use Rattle.farm_tick.proofs.age_rows.Statement.{statement}
+use Rattle.farm_tick.proofs.age_rows.Tie as tie
 
 abbrev Inv-loop : tie.InvT-loop
 Inv-loop b₀ i₀ b i = Holds b (withRows (farmOf b₀) (firstOlder i (farmOf b₀ .rows))) × (i ≤ 9)
