@@ -37,7 +37,7 @@ use Rattle.model.proofs.RuleTestLaws.{OnceBy, SeatOk, seat-says, possible-says,
 use Rattle.table.specs.Layout.{seats, rowsAt, blockSize}
 use Rattle.table.specs.Block.{farmOf}
 use Rattle.table.proofs.BlockLaws.{row-read}
-use Rattle.rules.specs.Rules.{stateKeeps, seatTest}
+use Rattle.rules.specs.Seat.{stateKeeps, seatTest}
 use Rattle.rules.proofs.OnceLaws.{after-once, once-after}
 
 -- no row after this one is active with its address

@@ -10,7 +10,7 @@ ghost use Rattle.model.specs.RuleTest.{everySeat, isPending, headKeeps, seatKee
 ghost use Rattle.table.specs.Layout.{seats, blockSize};
 ghost use Rattle.table.specs.Block.{farmOf, wholeBlock};
 ghost use Rattle.decide.specs.SiteSheet.{siteSheet};
-ghost use Rattle.rules.specs.Rules.{ruleSheet};
+ghost use Rattle.rules.specs.Seat.{ruleSheet};
 use crate::seat;
 use kinds::Clock;
 use kinds::FarmNo;

@@ -6,7 +6,7 @@ use Rattle.kinds.specs.declared.Row.{Row}
 use Rattle.model.specs.Farm.{Farm}
 use Rattle.model.specs.RuleTest.{possibleAt, tidyAt}
 use Rattle.table.specs.Block.{farmOf}
-use Rattle.rules.specs.Rules.{testerIn, ruleSheet, stateKeeps, seatTest}
+use Rattle.rules.specs.Seat.{testerIn, ruleSheet, stateKeeps, seatTest}
 use Rattle.rules.proofs.FarmLaws.{asked-carried}
 use borrow.Author.Needs.{needs}
 use Rattle.rules.proofs.seat.seat_keeps.Statement.{statement}

@@ -2,7 +2,7 @@
 -- Assumes nothing.
 use mathlib.Core.Path.{sym, ap, _∙_}
 use Rattle.table.specs.Block.{farmOf}
-use Rattle.rules.specs.Rules.{testerIn, stateKeeps}
+use Rattle.rules.specs.Seat.{testerIn, stateKeeps}
 use borrow.Author.Needs.{needs}
 use Rattle.rules.proofs.seat.state_keeps.Statement.{statement}
 use Rattle.rules.proofs.seat.state_keeps.Tie as tie
