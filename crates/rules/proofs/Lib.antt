@@ -1,4 +1,3 @@
-pub mod PlaceLaws
 pub mod OnceLaws
 pub mod SeatLaws
 pub mod FarmLaws

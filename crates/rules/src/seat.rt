@@ -14,7 +14,6 @@ ghost use Rattle.table.specs.Layout.{seats, blockSize};
 ghost use Rattle.table.specs.Block.{farmOf};
 ghost use Rattle.decide.specs.SiteSheet.{siteSheet};
 ghost use Rattle.rules.specs.Seat.{testerIn, ruleSheet, freeKeeps, freshKeeps, waitingKeeps, activeKeeps, stateKeeps, seatTest};
-use crate::place;
 use kinds::Clock;
 use kinds::FarmNo;
 use kinds::Place;
@@ -93,7 +92,7 @@ fn free_keeps(b: &[u8], i: usize, place: Place) -> bool
     requires { ⌜ length (now b) ≡ blockSize ⌝ }
     ensures { λ r. ⌜ r ≡ freeKeeps (farmOf (now (b .entry))) i place ⌝ }
 {
-    if !place::is_boundary(place) {
+    if !place_rules::is_boundary(place) {
         return false;
     }
     times_in(b, i) == 0
@@ -129,7 +128,7 @@ fn waiting_keeps(
     if !is_owned(rows, i) {
         return false;
     }
-    if !place::is_boundary(place) {
+    if !place_rules::is_boundary(place) {
         return false;
     }
     if 1 < q.kind {
@@ -199,10 +198,10 @@ pub fn seat_keeps(b: &[u8], s: &[u8], f: FarmNo, site: Site, rows: usize, i: usi
     let place = row.place;
     let head = row.head;
     let state = row.state;
-    if !place::possible(place, head) {
+    if !place_rules::possible(place, head) {
         return false;
     }
-    if !place::tidy(place, head) {
+    if !place_rules::tidy(place, head) {
         return false;
     }
     if !mark_keeps(b, site, i) {

@@ -1,14 +1,14 @@
--- `place::reads` meets its contract.
+-- `place::skips` meets its contract.
 -- Assumes nothing.
 use mathlib.Core.Path.{sym, ap, _∙_}
 use lib.Dec.{ltb}
 use borrow.Author.Tests.{not-true, not-false}
 use Rattle.wire.specs.declared.header.Header.{Header}
 use Rattle.wire.specs.Header.{verdictOf}
-use Rattle.model.specs.RuleTest.{passes}
+use Rattle.model.specs.RuleTest.{isSkipped}
 use borrow.Author.Needs.{needs}
-use Rattle.rules.proofs.place.reads.Statement.{statement}
-use Rattle.rules.proofs.place.reads.Tie as tie
+use Rattle.place_rules.proofs.skips.Statement.{statement}
+use Rattle.place_rules.proofs.skips.Tie as tie
 
 slice-aggregate-read : tie.Need-slice-aggregate-read
 slice-aggregate-read c = search needs
@@ -26,16 +26,16 @@ returns c = let s = c .before .before .before .before .args in
 judge-requires : tie.Need-judge-requires
 judge-requires c κs = search needs
 
-passes-requires : tie.Need-passes-requires
-passes-requires c κs = search needs
+is-skipped-requires : tie.Need-is-skipped-requires
+is-skipped-requires c κs = search needs
 
 returns-2 : tie.Need-returns-2
 returns-2 c = let s = c .before .before .before .before .before .before .args in
     simp (sym (c .before .before .before .is-unfinished .ensures ∙ ap (λ (x : Header). ltb (s .n) (x .length)) (c .before .before .before .before .read .ensures)) ∙ not-false _ (c .before .before .if1 .left))
-    (c .passes .ensures ∙ ap passes (c .before .judge .ensures ∙ ap verdictOf (c .before .before .before .before .read .ensures)))
+    (c .is-skipped .ensures ∙ ap isSkipped (c .before .judge .ensures ∙ ap verdictOf (c .before .before .before .before .read .ensures)))
 
-pub reads-spec : {M : Type 1} → statement M
-reads-spec =
+pub skips-spec : {M : Type 1} → statement M
+skips-spec =
     tie.close
     (tie.spec
     slice-aggregate-read
@@ -43,5 +43,5 @@ reads-spec =
     is-unfinished-requires
     returns
     judge-requires
-    passes-requires
+    is-skipped-requires
     returns-2)

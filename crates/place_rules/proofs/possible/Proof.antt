@@ -4,8 +4,8 @@ use mathlib.Core.Path.{sym, ap, _∙_}
 use Rattle.kinds.specs.declared.Place.{Place}
 use Rattle.model.specs.RuleTest.{possibleAt}
 use borrow.Author.Needs.{needs}
-use Rattle.rules.proofs.place.possible.Statement.{statement}
-use Rattle.rules.proofs.place.possible.Tie as tie
+use Rattle.place_rules.proofs.possible.Statement.{statement}
+use Rattle.place_rules.proofs.possible.Tie as tie
 
 enum-known-place : tie.Need-enum-known-place
 enum-known-place c = search needs

@@ -4,8 +4,8 @@ use borrow.Author.Needs.{needs}
 use mathlib.Core.Path.{sym, ap, _∙_}
 use Rattle.kinds.specs.declared.Place.{Place}
 use Rattle.model.specs.RuleTest.{tidyAt}
-use Rattle.rules.proofs.place.tidy.Statement.{statement}
-use Rattle.rules.proofs.place.tidy.Tie as tie
+use Rattle.place_rules.proofs.tidy.Statement.{statement}
+use Rattle.place_rules.proofs.tidy.Tie as tie
 
 enum-known-place : tie.Need-enum-known-place
 enum-known-place c = search needs

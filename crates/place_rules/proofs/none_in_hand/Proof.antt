@@ -10,9 +10,9 @@ use Rattle.octets.proofs.SaysLaws.{says-no, says-of, says-same}
 use Rattle.octets.proofs.ChoiceLaws.{says-eq}
 use Rattle.octets.proofs.SearchLaws.{same-says}
 use Rattle.wire.specs.Header.{headerSize}
-use Rattle.rules.proofs.PlaceLaws.{zeros, two-zeros}
-use Rattle.rules.proofs.place.none_in_hand.Statement.{statement}
-use Rattle.rules.proofs.place.none_in_hand.Tie as tie
+use Rattle.place_rules.proofs.PlaceLaws.{zeros, two-zeros}
+use Rattle.place_rules.proofs.none_in_hand.Statement.{statement}
+use Rattle.place_rules.proofs.none_in_hand.Tie as tie
 
 eight : (c : tie.Start) → length (c .args .t1) ≡ headerSize
 eight c = search needs

@@ -1,8 +1,8 @@
 -- `place::is_boundary` meets its contract.
 -- Assumes nothing.
 use borrow.Author.Needs.{needs}
-use Rattle.rules.proofs.place.is_boundary.Statement.{statement}
-use Rattle.rules.proofs.place.is_boundary.Tie as tie
+use Rattle.place_rules.proofs.is_boundary.Statement.{statement}
+use Rattle.place_rules.proofs.is_boundary.Tie as tie
 
 enum-known-place : tie.Need-enum-known-place
 enum-known-place c = search needs

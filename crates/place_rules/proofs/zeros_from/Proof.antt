@@ -5,9 +5,9 @@ use mathlib.Core.Path.{_≡_, sym}
 use Prim.Native.Nat.{_-_}
 use lib.ListN.{length}
 use Rattle.wire.specs.Header.{headerSize}
-use Rattle.rules.proofs.PlaceLaws.{ZerosFrom, zeros-start, zeros-next, zeros-differ, zeros-end}
-use Rattle.rules.proofs.place.zeros_from.Statement.{statement}
-use Rattle.rules.proofs.place.zeros_from.Tie as tie
+use Rattle.place_rules.proofs.PlaceLaws.{ZerosFrom, zeros-start, zeros-next, zeros-differ, zeros-end}
+use Rattle.place_rules.proofs.zeros_from.Statement.{statement}
+use Rattle.place_rules.proofs.zeros_from.Tie as tie
 
 abbrev Inv-loop : tie.InvT-loop
 Inv-loop n head i₀ i = ZerosFrom head n i

@@ -7,9 +7,9 @@ use Prim.Native.Nat.{ℕ, _-_}
 use lib.ListN.{drop}
 use Rattle.octets.specs.Search.{sameList}
 use Rattle.wire.specs.Header.{headerSize}
-use Rattle.rules.proofs.PlaceLaws.{zeros}
-use Rattle.rules.proofs.place.rest_zero.Statement.{statement}
-use Rattle.rules.proofs.place.rest_zero.Tie as tie
+use Rattle.place_rules.proofs.PlaceLaws.{zeros}
+use Rattle.place_rules.proofs.rest_zero.Statement.{statement}
+use Rattle.place_rules.proofs.rest_zero.Tie as tie
 
 none-in-hand-requires : tie.Need-none-in-hand-requires
 none-in-hand-requires c κs = search needs
