@@ -1,4 +1,1 @@
-pub mod OnceLaws
-pub mod SeatLaws
-pub mod FarmLaws
 pub mod TableLaws

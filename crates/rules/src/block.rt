@@ -10,8 +10,7 @@ ghost use Rattle.model.specs.RuleTest.{everySeat, isPending, headKeeps, seatKee
 ghost use Rattle.table.specs.Layout.{seats, blockSize};
 ghost use Rattle.table.specs.Block.{farmOf, wholeBlock};
 ghost use Rattle.decide.specs.SiteSheet.{siteSheet};
-ghost use Rattle.rules.specs.Seat.{ruleSheet};
-use crate::seat;
+ghost use Rattle.row_rules.specs.Seat.{ruleSheet};
 use kinds::Clock;
 use kinds::FarmNo;
 use kinds::HeadVerdict;
@@ -24,7 +23,7 @@ fn seats_keep(b: &[u8], s: &[u8], f: FarmNo, site: Site, rows: usize) -> bool
     ensures { λ r. ⌜ r ≡ everySeat (seatKeeps (ruleSheet (now (s .entry)) (f .0) site rows) (farmOf (now (b .entry)))) ⌝ }
 {
     for i in 0..SEATS {
-        if !seat::seat_keeps(b, s, f, site, rows, i) {
+        if !row_rules::seat_keeps(b, s, f, site, rows, i) {
             return false;
         }
     }

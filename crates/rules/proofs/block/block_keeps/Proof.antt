@@ -7,7 +7,7 @@ use Rattle.octets.proofs.SaysLaws.{says-same}
 use Rattle.sheet.specs.Sheet.{farmCount}
 use Rattle.table.specs.Block.{farmOf}
 use Rattle.table_whole.proofs.WholeTest.{whole-says}
-use Rattle.rules.proofs.FarmLaws.{farm-carried, none-carried}
+use Rattle.row_rules.proofs.FarmLaws.{farm-carried, none-carried}
 use borrow.Author.Needs.{needs}
 use Rattle.rules.proofs.block.block_keeps.Statement.{statement}
 use Rattle.rules.proofs.block.block_keeps.Tie as tie

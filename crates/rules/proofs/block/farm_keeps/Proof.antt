@@ -15,8 +15,8 @@ use Rattle.model.specs.RuleTest.{goodFarm}
 use Rattle.table.specs.Block.{farmOf}
 use Rattle.table.proofs.MarkLaws.{marks-seats}
 use Rattle.decide.proofs.RowLaws.{nine}
-use Rattle.rules.specs.Seat.{ruleSheet}
-use Rattle.rules.proofs.FarmLaws.{head-carried}
+use Rattle.row_rules.specs.Seat.{ruleSheet}
+use Rattle.row_rules.proofs.FarmLaws.{head-carried}
 use borrow.Author.Needs.{needs}
 use Rattle.rules.proofs.block.farm_keeps.Statement.{statement}
 use Rattle.rules.proofs.block.farm_keeps.Tie as tie

@@ -10,7 +10,7 @@ use Rattle.model.specs.Line.{headVerdict}
 use Rattle.model.specs.RuleTest.{isPending}
 use Rattle.table.specs.Block.{farmOf}
 use Rattle.decide.specs.SiteSheet.{siteSheet}
-use Rattle.rules.proofs.FarmLaws.{head-none, head-some}
+use Rattle.row_rules.proofs.FarmLaws.{head-none, head-some}
 use borrow.Author.Needs.{needs}
 use Rattle.rules.proofs.block.head_keeps.Statement.{statement}
 use Rattle.rules.proofs.block.head_keeps.Tie as tie

@@ -4,8 +4,8 @@ use Rattle.model.specs.FarmSheet.{FarmSheet}
 use Rattle.model.specs.Farm.{Farm, seatCount}
 use Rattle.model.specs.RuleTest.{everySeat}
 use Rattle.decide.proofs.RowLaws.{nine}
-use Rattle.rules.specs.Seat.{ruleSheet, seatTest}
-use Rattle.rules.proofs.SeatLaws.{tests-same, head-eight}
+use Rattle.row_rules.specs.Seat.{ruleSheet, seatTest}
+use Rattle.row_rules.proofs.SeatLaws.{tests-same, head-eight}
 use borrow.Author.Needs.{needs}
 use mathlib.Core.Path.{_≡_, sym, _∙_}
 use mathlib.Core.Bool.{true}

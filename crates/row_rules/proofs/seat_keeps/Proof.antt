@@ -6,11 +6,11 @@ use Rattle.kinds.specs.declared.Row.{Row}
 use Rattle.model.specs.Farm.{Farm}
 use Rattle.model.specs.RuleTest.{possibleAt, tidyAt}
 use Rattle.table.specs.Block.{farmOf}
-use Rattle.rules.specs.Seat.{testerIn, ruleSheet, stateKeeps, seatTest}
-use Rattle.rules.proofs.FarmLaws.{asked-carried}
+use Rattle.row_rules.specs.Seat.{testerIn, ruleSheet, stateKeeps, seatTest}
+use Rattle.row_rules.proofs.FarmLaws.{asked-carried}
 use borrow.Author.Needs.{needs}
-use Rattle.rules.proofs.seat.seat_keeps.Statement.{statement}
-use Rattle.rules.proofs.seat.seat_keeps.Tie as tie
+use Rattle.row_rules.proofs.seat_keeps.Statement.{statement}
+use Rattle.row_rules.proofs.seat_keeps.Tie as tie
 
 row-at-requires : tie.Need-row-at-requires
 row-at-requires c κs = search needs

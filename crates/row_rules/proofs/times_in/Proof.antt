@@ -13,8 +13,8 @@ use borrow.Author.Tests.{eq-eqb, ne-eqb}
 use Rattle.octets.specs.Search.{countIf}
 use Rattle.octets.proofs.SearchLaws.{count-here, count-next, count-end}
 use Rattle.table_line.proofs.LineStores.{few}
-use Rattle.rules.proofs.seat.times_in.Statement.{statement}
-use Rattle.rules.proofs.seat.times_in.Tie as tie
+use Rattle.row_rules.proofs.times_in.Statement.{statement}
+use Rattle.row_rules.proofs.times_in.Tie as tie
 
 abbrev Inv-loop : tie.InvT-loop
 Inv-loop b i n sum₀ k₀ sum k = (sum + countIf (eqb i) (drop k (farmOf b .line)) ≡ countIf (eqb i) (farmOf b .line)) × (k ≤ n) × (n ≡ length (farmOf b .line)) × (sum ≤ k)

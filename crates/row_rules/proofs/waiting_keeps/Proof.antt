@@ -5,8 +5,8 @@ use borrow.Author.Tests.{lt-leb, le-leb, eq-eqb, ne-eqb, not-true, not-false}
 use Rattle.model.specs.Rule.{times}
 use Rattle.table.specs.Block.{farmOf}
 use borrow.Author.Needs.{needs}
-use Rattle.rules.proofs.seat.waiting_keeps.Statement.{statement}
-use Rattle.rules.proofs.seat.waiting_keeps.Tie as tie
+use Rattle.row_rules.proofs.waiting_keeps.Statement.{statement}
+use Rattle.row_rules.proofs.waiting_keeps.Tie as tie
 
 is-owned-requires : tie.Need-is-owned-requires
 is-owned-requires c κs = search needs

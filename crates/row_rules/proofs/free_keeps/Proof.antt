@@ -5,8 +5,8 @@ use Prim.Native.Nat.{ℕ}
 use lib.Dec.{eqb}
 use borrow.Author.Tests.{not-true, not-false}
 use borrow.Author.Needs.{needs}
-use Rattle.rules.proofs.seat.free_keeps.Statement.{statement}
-use Rattle.rules.proofs.seat.free_keeps.Tie as tie
+use Rattle.row_rules.proofs.free_keeps.Statement.{statement}
+use Rattle.row_rules.proofs.free_keeps.Tie as tie
 
 is-boundary-requires : tie.Need-is-boundary-requires
 is-boundary-requires c κs = search needs

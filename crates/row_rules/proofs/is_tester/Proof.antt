@@ -4,8 +4,8 @@ use Rattle.sheet.proofs.LengthLaws.{good-lengths}
 use mathlib.Core.Path.{sym, ap, _∙_}
 use Rattle.model.specs.FarmSheet.{testerBy}
 use borrow.Author.Needs.{needs}
-use Rattle.rules.proofs.seat.is_tester.Statement.{statement}
-use Rattle.rules.proofs.seat.is_tester.Tie as tie
+use Rattle.row_rules.proofs.is_tester.Statement.{statement}
+use Rattle.row_rules.proofs.is_tester.Tie as tie
 
 find-tester-requires : tie.Need-find-tester-requires
 find-tester-requires c κs = good-lengths _ (c .before .pre) .whole

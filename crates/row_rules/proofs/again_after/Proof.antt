@@ -10,8 +10,8 @@ use Rattle.octets.proofs.SearchLaws.{some-here, some-next, some-end}
 use Rattle.model.specs.Row.{freeRow, activeAs}
 use Rattle.table.specs.Block.{farmOf}
 use Rattle.decide.proofs.RowLaws.{nine}
-use Rattle.rules.proofs.seat.again_after.Statement.{statement}
-use Rattle.rules.proofs.seat.again_after.Tie as tie
+use Rattle.row_rules.proofs.again_after.Statement.{statement}
+use Rattle.row_rules.proofs.again_after.Tie as tie
 
 abbrev Inv-loop : tie.InvT-loop
 Inv-loop b i address k₀ k = some (activeAs address) (drop (i + 1) (farmOf b .rows)) ≡ some (activeAs address) (drop k (farmOf b .rows))

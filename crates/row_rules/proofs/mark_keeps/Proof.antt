@@ -8,8 +8,8 @@ use Rattle.model.specs.Line.{isAsked}
 use Rattle.table.specs.Block.{farmOf}
 use Rattle.decide.specs.SiteSheet.{siteSheet}
 use borrow.Author.Needs.{needs}
-use Rattle.rules.proofs.seat.mark_keeps.Statement.{statement}
-use Rattle.rules.proofs.seat.mark_keeps.Tie as tie
+use Rattle.row_rules.proofs.mark_keeps.Statement.{statement}
+use Rattle.row_rules.proofs.mark_keeps.Tie as tie
 
 mark-at-requires : tie.Need-mark-at-requires
 mark-at-requires c κs = search needs

@@ -7,8 +7,8 @@ use Rattle.kinds.specs.Clock.{generalLimit}
 use Rattle.model.specs.Rule.{times}
 use Rattle.table.specs.Block.{farmOf}
 use borrow.Author.Needs.{needs}
-use Rattle.rules.proofs.seat.active_keeps.Statement.{statement}
-use Rattle.rules.proofs.seat.active_keeps.Tie as tie
+use Rattle.row_rules.proofs.active_keeps.Statement.{statement}
+use Rattle.row_rules.proofs.active_keeps.Tie as tie
 
 is-owned-requires : tie.Need-is-owned-requires
 is-owned-requires c κs = search needs

@@ -2,10 +2,10 @@
 -- Assumes nothing.
 use mathlib.Core.Path.{sym, ap, _∙_}
 use Rattle.table.specs.Block.{farmOf}
-use Rattle.rules.specs.Seat.{testerIn, stateKeeps}
+use Rattle.row_rules.specs.Seat.{testerIn, stateKeeps}
 use borrow.Author.Needs.{needs}
-use Rattle.rules.proofs.seat.state_keeps.Statement.{statement}
-use Rattle.rules.proofs.seat.state_keeps.Tie as tie
+use Rattle.row_rules.proofs.state_keeps.Statement.{statement}
+use Rattle.row_rules.proofs.state_keeps.Tie as tie
 
 enum-told : tie.Need-enum-told
 enum-told c = search needs

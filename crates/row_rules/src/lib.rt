@@ -13,7 +13,7 @@ ghost use Rattle.model.specs.Rule.{times};
 ghost use Rattle.table.specs.Layout.{seats, blockSize};
 ghost use Rattle.table.specs.Block.{farmOf};
 ghost use Rattle.decide.specs.SiteSheet.{siteSheet};
-ghost use Rattle.rules.specs.Seat.{testerIn, ruleSheet, freeKeeps, freshKeeps, waitingKeeps, activeKeeps, stateKeeps, seatTest};
+ghost use Rattle.row_rules.specs.Seat.{testerIn, ruleSheet, freeKeeps, freshKeeps, waitingKeeps, activeKeeps, stateKeeps, seatTest};
 use kinds::Clock;
 use kinds::FarmNo;
 use kinds::Place;

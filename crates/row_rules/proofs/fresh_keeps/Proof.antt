@@ -6,8 +6,8 @@ use lib.Dec.{eqb}
 use borrow.Author.Tests.{lt-leb, le-leb, not-true, not-false}
 use Rattle.kinds.specs.Clock.{initialLimit}
 use borrow.Author.Needs.{needs}
-use Rattle.rules.proofs.seat.fresh_keeps.Statement.{statement}
-use Rattle.rules.proofs.seat.fresh_keeps.Tie as tie
+use Rattle.row_rules.proofs.fresh_keeps.Statement.{statement}
+use Rattle.row_rules.proofs.fresh_keeps.Tie as tie
 
 is-owned-requires : tie.Need-is-owned-requires
 is-owned-requires c κs = search needs

@@ -1,0 +1,3 @@
+pub mod OnceLaws
+pub mod SeatLaws
+pub mod FarmLaws
