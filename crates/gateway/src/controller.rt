@@ -27,5 +27,5 @@ pub fn controller_message(
     if !farms::has_farm(s, f) {
         return answer::refused(5);
     }
-    serve::controller::send(s, t, out, f, controller, tester, user)
+    serve_controller::send(s, t, out, f, controller, tester, user)
 }

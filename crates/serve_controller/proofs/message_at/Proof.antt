@@ -5,10 +5,10 @@ use mathlib.Core.Path.{subst}
 use mathlib.Core.List.{List}
 use Rattle.table.specs.Block.{farmOf}
 use Rattle.farm.specs.Moves.{Messaged}
 use Rattle.serve.proofs.BlockLaws.{lent-is}
 use borrow.Author.Needs.{needs}
-use Rattle.serve.proofs.controller.message_at.Statement.{statement}
-use Rattle.serve.proofs.controller.message_at.Tie as tie
+use Rattle.serve_controller.proofs.message_at.Statement.{statement}
+use Rattle.serve_controller.proofs.message_at.Tie as tie
 
 cast-a : tie.Need-cast-a
 cast-a c = search needs

@@ -2,11 +2,11 @@
 -- Assumes nothing.
 use native.Mathlib.Omega.{arith}
 use Rattle.model.specs.Move.{noRow}
 use Rattle.serve.proofs.MovedLaws.{ready-below}
 use Rattle.serve.proofs.SaidLaws.{message-refused, message-room, message-out}
 use borrow.Author.Needs.{needs}
-use Rattle.serve.proofs.controller.send.Statement.{statement}
-use Rattle.serve.proofs.controller.send.Tie as tie
+use Rattle.serve_controller.proofs.send.Statement.{statement}
+use Rattle.serve_controller.proofs.send.Tie as tie
 
 site-of-requires : tie.Need-site-of-requires
 site-of-requires c κs = search needs
