@@ -25,5 +25,5 @@ pub fn datagram(
     if !farms::has_farm(s, f) {
         return answer::refused(5);
     }
-    serve::datagrams::reply(s, t, out, f, input)
+    serve_datagram::reply(s, t, out, f, input)
 }

@@ -4,4 +4,3 @@ pub mod answer; // answer.rt: a refusal, and the output sheet of a call that is 
 pub mod at; // at.rt: what is asked of a farm's block
 pub mod closed; // closed.rt: peer closed, link lost
 pub mod connect; // connect.rt: connect
-pub mod datagrams; // datagrams.rt: datagram

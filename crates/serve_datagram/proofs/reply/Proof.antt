@@ -4,10 +4,10 @@ use mathlib.Core.Path.{_∙_, ap}
 use native.Mathlib.Omega.{arith}
 use lib.ListN.{length}
 use Rattle.model.specs.Move.{noRow}
 use Rattle.serve.proofs.SaidLaws.{record-long, open-byte, answer-same, answer-room, answer-out}
 use borrow.Author.Needs.{needs}
-use Rattle.serve.proofs.datagrams.reply.Statement.{statement}
-use Rattle.serve.proofs.datagrams.reply.Tie as tie
+use Rattle.serve_datagram.proofs.reply.Statement.{statement}
+use Rattle.serve_datagram.proofs.reply.Tie as tie
 
 record-of-requires : tie.Need-record-of-requires
 record-of-requires c κs = search needs

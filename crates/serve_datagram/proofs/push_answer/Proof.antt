@@ -7,8 +7,8 @@ use Rattle.plan.specs.Plan.{Said}
 use Rattle.plan.proofs.PlanLaws.{said-more}
 use Rattle.model.specs.Move.{noRow, answers}
 use borrow.Author.Needs.{needs}
-use Rattle.serve.proofs.datagrams.push_answer.Statement.{statement}
-use Rattle.serve.proofs.datagrams.push_answer.Tie as tie
+use Rattle.serve_datagram.proofs.push_answer.Statement.{statement}
+use Rattle.serve_datagram.proofs.push_answer.Tie as tie
 
 enum-told : tie.Need-enum-told
 enum-told c = search needs
