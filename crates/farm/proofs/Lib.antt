@@ -1,3 +1,2 @@
 pub mod RowsLaws
 pub mod SeatedLaws
-pub mod MessageLaws

@@ -2,4 +2,3 @@
 pub mod ask; // ask.rt: what is asked of a farm's rows
 pub mod closed; // closed.rt: peer closed, link lost
 pub mod connect; // connect.rt: a free row opens
-pub mod controller; // controller.rt: a message from a controller

@@ -35,7 +35,7 @@ fn message_at(
 {
     let a = (f.0 as usize) * BLOCK;
     let e = a + BLOCK;
-    farm::controller::message(&t[a..e], p, s, f, site, from, to, user)
+    farm_controller::message(&t[a..e], p, s, f, site, from, to, user)
 }
 
 // Refusals 9 and 10, else the message goes out.

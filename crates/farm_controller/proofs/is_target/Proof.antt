@@ -5,10 +5,10 @@ use mathlib.Core.Path.{sym, ap, _∙_}
 use Rattle.sheet.specs.declared.find.Found.{Found}
 use Rattle.model.specs.FarmSheet.{targetBy, farmSheet}
 use Rattle.model.specs.Move.{isTarget}
-use Rattle.farm.proofs.MessageLaws.{target-known}
+use Rattle.farm_controller.proofs.MessageLaws.{target-known}
 use borrow.Author.Needs.{needs}
-use Rattle.farm.proofs.controller.is_target.Statement.{statement}
-use Rattle.farm.proofs.controller.is_target.Tie as tie
+use Rattle.farm_controller.proofs.is_target.Statement.{statement}
+use Rattle.farm_controller.proofs.is_target.Tie as tie
 
 find-target-requires : tie.Need-find-target-requires
 find-target-requires c κs = good-lengths _ (c .before .pre) .whole

@@ -3,8 +3,8 @@
 use native.Mathlib.Omega.{arith}
 use borrow.Author.Tests.{le-leb, lt-leb}
 use Rattle.model.specs.Move.{mostUser}
-use Rattle.farm.proofs.controller.size_fits.Statement.{statement}
-use Rattle.farm.proofs.controller.size_fits.Tie as tie
+use Rattle.farm_controller.proofs.size_fits.Statement.{statement}
+use Rattle.farm_controller.proofs.size_fits.Tie as tie
 
 returns : tie.Need-returns
 unfolding mostUser

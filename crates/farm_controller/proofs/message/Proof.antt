@@ -9,10 +9,10 @@ use Rattle.model.specs.Row.{activeAs}
 use Rattle.table.specs.Block.{farmOf}
 use Rattle.decide.proofs.RowLaws.{nine, found-below}
 use Rattle.site.proofs.SiteLaws.{sited-fit}
-use Rattle.farm.proofs.MessageLaws.{wrong-size, no-target, for-tester, messaged-refused, messaged-said}
+use Rattle.farm_controller.proofs.MessageLaws.{wrong-size, no-target, for-tester, messaged-refused, messaged-said}
 use borrow.Author.Needs.{needs}
-use Rattle.farm.proofs.controller.message.Statement.{statement}
-use Rattle.farm.proofs.controller.message.Tie as tie
+use Rattle.farm_controller.proofs.message.Statement.{statement}
+use Rattle.farm_controller.proofs.message.Tie as tie
 
 size-fits-requires : tie.Need-size-fits-requires
 size-fits-requires c κs = search needs
