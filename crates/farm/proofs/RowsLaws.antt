@@ -13,7 +13,7 @@ use Rattle.model.specs.Row.{isFree}
 use Rattle.table.specs.Layout.{seats}
 use Rattle.table.specs.Block.{farmOf}
 use Rattle.decide.proofs.RowLaws.{nine, found-below}
-use Rattle.farm.specs.Moves.{Connected}
+use Rattle.farm.specs.Connected.{Connected}
 
 pub own-many : (b : List ℕ) (rows : ℕ) → rows ≤ seats → length (take rows (farmOf b .rows)) ≡ rows
 own-many b rows h = length-take-le rows (farmOf b .rows) (omega (arith, nine b))

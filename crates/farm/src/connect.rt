@@ -7,7 +7,7 @@ ghost use Rattle.model.specs.Row.{isFree, freshRow};
 ghost use Rattle.model.specs.Farm.{withRow};
 ghost use Rattle.table.specs.Layout.{seats, blockSize};
 ghost use Rattle.table.specs.Block.{farmOf, Whole, Holds};
-ghost use Rattle.farm.specs.Moves.{Connected};
+ghost use Rattle.farm.specs.Connected.{Connected};
 use crate::ask;
 use kinds::Clock;
 use kinds::RowState;

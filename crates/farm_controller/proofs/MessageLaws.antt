@@ -25,7 +25,7 @@ use Rattle.rowwork.specs.Did.{pushedAll}
 use Rattle.rowwork.proofs.DidLaws.{pushed-none, pushed-one}
 use Rattle.site.specs.Site.{Sited}
 use Rattle.site.proofs.SiteLaws.{sited-same}
-use Rattle.farm.specs.Moves.{sizeFits, numberBy, messageMove, Messaged}
+use Rattle.farm_controller.specs.Message.{sizeFits, numberBy, messageMove, Messaged}
 
 -- a target of another farm is no target of this one; whether it is reachable does not matter
 pub target-known : (f : ℕ) (k : Known) → eqb (k .farm .0) f ≡ isTarget (targetBy f (Is k))

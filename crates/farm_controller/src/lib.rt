@@ -8,7 +8,7 @@ ghost use Rattle.plan.specs.Plan.{PlanOk};
 ghost use Rattle.table.specs.Layout.{blockSize};
 ghost use Rattle.table.specs.Block.{farmOf};
 ghost use Rattle.site.specs.Site.{Sited};
-ghost use Rattle.farm.specs.Moves.{sizeFits, Messaged};
+ghost use Rattle.farm_controller.specs.Message.{sizeFits, Messaged};
 use kinds::FarmNo;
 use kinds::Reply;
 use kinds::Site;

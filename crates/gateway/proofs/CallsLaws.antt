@@ -28,7 +28,7 @@ use Rattle.model.specs.Table.{connectTo, peerClosedOn, linkLostOf, Did, Outcome
 use Rattle.table.specs.Layout.{blockSize, tableSize}
 use Rattle.table.specs.Block.{farmOf, image, Holds}
 use Rattle.table.proofs.BlockLaws.{exact, settled}
-use Rattle.farm.specs.Moves.{connectedFarm}
+use Rattle.farm.specs.Connected.{connectedFarm}
 use Rattle.lent.specs.declared.Answer.{Answer}
 use Rattle.lent.specs.Lent.{block, Only, heldAt, lentTable, lentStep}
 use Rattle.lent.specs.Gate.{Passed}

@@ -6,9 +6,7 @@ use mathlib.Core.Bool.{Bool, true, false}
 use mathlib.Core.List.{List, [], _∷_}
 use borrow.Author.Tests.{eq-eqb, ne-eqb}
 use Rattle.kinds.specs.declared.Item.{Item}
-use Rattle.kinds.specs.declared.Reply.{Reply}
 use Rattle.kinds.specs.declared.Reply.the-variants.{Ack, DiagnosticNack, HandOn}
-use Rattle.kinds.specs.declared.Fault.{Fault}
 use Rattle.wire.specs.declared.payload.Ends.{Ends}
 use Rattle.sheet.specs.declared.find.Known.{Known}
 use Rattle.sheet.specs.declared.find.Found.the-variants.{Is, Nobody}
@@ -17,11 +15,12 @@ use Rattle.sheet.specs.Find.{lookup}
 use Rattle.model.specs.FarmSheet.{FarmSheet, farmSheet, TargetIs, stranger, unreachable, reachable}
 use Rattle.model.specs.Row.{rowAt, activeAs}
 use Rattle.model.specs.Farm.{Farm, does, andThen, says, closed}
-use Rattle.model.specs.Bytes.{toTarget, diagnosed, faulted}
+use Rattle.model.specs.Bytes.{toTarget, diagnosed}
 use Rattle.model.proofs.SameSite.{SameSite}
 use Rattle.plan.specs.Plan.{pushedTo}
 use Rattle.rowwork.specs.Did.{pushedAll}
-use Rattle.messages.specs.Codes.{targetCode, repliesBy, refusedBy}
+use Rattle.rowwork.specs.Refused.{refusedBy}
+use Rattle.messages.specs.Codes.{targetCode, repliesBy}
 
 -- ---- the target
 
@@ -78,18 +77,3 @@ module _ (a b : FarmSheet) (same : SameSite a b) (seat : ℕ) where
         → refusedBy a seat (DiagnosticNack (e .target) (e .source) 0x02) true f ≡ diagnosed b seat e f
     unfolding diagnosed andThen closed
     diagnosed-stranger h = rw (h, same .first) refl
-
-  -- ---- a header judged wrong
-
-  pub faulted-same : (fault : Fault) (f : Farm) → faulted a seat fault f ≡ faulted b seat fault f
-  unfolding andThen closed
-  faulted-same fault f = rw (same .first) refl
-
--- ---- an answer that may close the row
-
-module _ (own : FarmSheet) (seat : ℕ) (reply : Reply) (closes : Bool) (f : Farm) where
-  pub refused-closes : closes ≡ true → andThen (does f (says own seat reply ∷ [])) (closed own seat) ≡ refusedBy own seat reply closes f
-  refused-closes e = rw e refl
-
-  pub refused-stays : closes ≡ false → does f (says own seat reply ∷ []) ≡ refusedBy own seat reply closes f
-  refused-stays e = rw e refl

@@ -9,12 +9,11 @@ use Rattle.kinds.specs.declared.Event.{Event}
 use Rattle.kinds.specs.declared.Event.the-variants.{Wrong}
 use Rattle.wire.specs.Payload.{requestIn, addressIn, endsIn}
 use Rattle.model.specs.FarmSheet.{FarmSheet}
-use Rattle.model.specs.Farm.{Farm, quietly}
+use Rattle.model.specs.Farm.{Farm, quietly, andThen, closed}
 use Rattle.model.specs.Line.{marked}
 use Rattle.model.specs.Bytes.{requested, diagnosed, messaged, faulted, eventDone}
 use Rattle.model.proofs.SameSite.{SameSite}
 use Rattle.stream.specs.Took.{eventOf}
-use Rattle.messages.proofs.DiagnosticLaws.{faulted-same}
 
 module _ (own : FarmSheet) (seat kind : ℕ) (payload : List ℕ) (f : Farm) where
   pub is-request : kind ≡ 0x0005 → requested own seat (requestIn payload) f ≡ messaged own seat kind payload f
@@ -33,6 +32,10 @@ module _ (own : FarmSheet) (seat kind : ℕ) (payload : List ℕ) (f : Farm) whe
       is-dropped c = rw (ne-eqb kind 0x0005 a, ne-eqb kind 0x0008 b, ne-eqb kind 0x8001 c) refl
 
 -- a header judged wrong, by the three numbers that the code is handed
+faulted-same : (a b : FarmSheet) → SameSite a b → (seat : ℕ) (fault : Fault) (f : Farm) → faulted a seat fault f ≡ faulted b seat fault f
+unfolding andThen closed
+faulted-same a b same seat fault f = rw (same .first) refl
+
 pub wrong-done : (a b : FarmSheet) → SameSite a b → (seat : ℕ) (room : List ℕ) (f : Farm) {e : Event} {fault : Fault} → e ≡ Wrong fault
     → faulted a seat fault f ≡ eventDone b seat (eventOf e) room f
 unfolding eventDone

@@ -11,7 +11,7 @@ ghost use Rattle.decide.specs.SiteSheet.{siteSheet};
 ghost use Rattle.rowwork.specs.Did.{RowsFit, pushedAll, Did};
 ghost use Rattle.site.specs.Site.{Sited};
 ghost use Rattle.messages.specs.Codes.{targetCode, repliesBy};
-use crate::refuse;
+use rowwork::refuse;
 use kinds::FarmNo;
 use kinds::Reply;
 use kinds::Site;

@@ -6,7 +6,7 @@ ghost use Rattle.table.specs.Layout.{seats};
 ghost use Rattle.table.specs.Block.{farmOf, Whole};
 ghost use Rattle.decide.specs.SiteSheet.{siteSheet};
 ghost use Rattle.rowwork.specs.Did.{RowsFit, Did};
-use crate::refuse;
+use rowwork::refuse;
 use kinds::Fault;
 use kinds::Reply;
 use kinds::Site;

@@ -2,5 +2,4 @@
 pub mod diagnostic; // diagnostic.rt: 8001
 pub mod fault; // fault.rt: a header judged wrong
 pub mod message; // message.rt: by what ended the call, and by the message's type
-pub mod refuse; // refuse.rt: an answer that may close the row
 pub mod request; // request.rt: 0005

@@ -1,2 +1,3 @@
 pub mod DidLaws
 pub mod StepLaws
+pub mod RefusedLaws

@@ -1,2 +1,3 @@
 pub mod Did
 pub mod Steps
+pub mod Refused

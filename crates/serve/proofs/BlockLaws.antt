@@ -11,7 +11,7 @@ use Rattle.model.specs.Farm.{Farm, Done}
 use Rattle.table.specs.Layout.{blockSize, tableSize}
 use Rattle.table.specs.Block.{farmOf}
 use Rattle.rowwork.specs.Did.{Did}
-use Rattle.farm.specs.Moves.{Connected}
+use Rattle.farm.specs.Connected.{Connected}
 use Rattle.lent.specs.Lent.{block}
 use Rattle.lent.proofs.MoveLaws.{lent-back}
 use Rattle.serve.specs.Moved.{DidAt, ConnectedAt}

@@ -35,7 +35,7 @@ use Rattle.rowwork.proofs.DidLaws.{pushed-first}
 use Rattle.room.proofs.Open.{open-within}
 use Rattle.room.proofs.Moves.{Small}
 use Rattle.room.proofs.Long.{answers-few, longs-few}
-use Rattle.farm.specs.Moves.{numberBy, messageMove, Messaged}
+use Rattle.farm_controller.specs.Message.{numberBy, messageMove, Messaged}
 use Rattle.lent.specs.declared.Answer.{Answer}
 use Rattle.lent.specs.Lent.{block, heldAt, lentTable, lentStep}
 use Rattle.lent.specs.Gate.{gateNumber, Passed}

@@ -12,7 +12,8 @@ use Rattle.model.specs.Farm.{Farm, Done}
 use Rattle.model.specs.Move.{noRow, Move, refused, gave}
 use Rattle.table.specs.Block.{farmOf, Holds}
 use Rattle.rowwork.specs.Did.{Did}
-use Rattle.farm.specs.Moves.{Connected, messageMove}
+use Rattle.farm_controller.specs.Message.{messageMove}
+use Rattle.farm.specs.Connected.{Connected}
 use Rattle.lent.specs.declared.Answer.{Answer}
 use Rattle.lent.specs.Lent.{block, Only}
 use Rattle.lent.specs.Served.{refusal, done}

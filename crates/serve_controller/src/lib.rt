@@ -8,7 +8,7 @@ ghost use Rattle.outsheet.specs.Contracts.{leastOutput};
 ghost use Rattle.table.specs.Layout.{tableSize};
 ghost use Rattle.table.specs.Block.{farmOf};
 ghost use Rattle.site.specs.Site.{Sited};
-ghost use Rattle.farm.specs.Moves.{Messaged};
+ghost use Rattle.farm_controller.specs.Message.{Messaged};
 ghost use Rattle.lent.specs.Lent.{block};
 ghost use Rattle.serve.specs.Ready.{Ready};
 ghost use Rattle.serve.specs.Moved.{MessageOut};

@@ -4,7 +4,7 @@ use Prim.Native.Nat.{ℕ}
 use mathlib.Core.Path.{subst}
 use mathlib.Core.List.{List}
 use Rattle.table.specs.Block.{farmOf}
-use Rattle.farm.specs.Moves.{Messaged}
+use Rattle.farm_controller.specs.Message.{Messaged}
 use Rattle.serve.proofs.BlockLaws.{lent-is}
 use borrow.Author.Needs.{needs}
 use Rattle.serve_controller.proofs.message_at.Statement.{statement}

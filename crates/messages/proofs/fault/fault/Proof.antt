@@ -10,7 +10,7 @@ use Rattle.model.specs.Farm.{Farm}
 use Rattle.table.specs.Block.{farmOf}
 use Rattle.decide.specs.SiteSheet.{siteSheet}
 use Rattle.rowwork.proofs.DidLaws.{did-same}
-use Rattle.messages.specs.Codes.{refusedBy}
+use Rattle.rowwork.specs.Refused.{refusedBy}
 use borrow.Author.Needs.{needs}
 use Rattle.messages.proofs.fault.fault.Statement.{statement}
 use Rattle.messages.proofs.fault.fault.Tie as tie

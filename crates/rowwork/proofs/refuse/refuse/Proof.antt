@@ -5,11 +5,11 @@ use Rattle.model.specs.FarmSheet.{FarmSheet}
 use Rattle.model.specs.Farm.{Farm, closed}
 use Rattle.table.specs.Block.{farmOf}
 use Rattle.decide.specs.SiteSheet.{siteSheet}
 use Rattle.rowwork.proofs.DidLaws.{did-same, did-says, did-then}
-use Rattle.messages.proofs.DiagnosticLaws.{refused-closes, refused-stays}
+use Rattle.rowwork.proofs.RefusedLaws.{refused-closes, refused-stays}
 use borrow.Author.Needs.{needs}
-use Rattle.messages.proofs.refuse.refuse.Statement.{statement}
-use Rattle.messages.proofs.refuse.refuse.Tie as tie
+use Rattle.rowwork.proofs.refuse.refuse.Statement.{statement}
+use Rattle.rowwork.proofs.refuse.refuse.Tie as tie
 
 say-requires : tie.Need-say-requires
 say-requires c κs = search needs

@@ -4,12 +4,12 @@ ghost use Rattle.plan.specs.Plan.{PlanOk};
 ghost use Rattle.table.specs.Layout.{seats};
 ghost use Rattle.table.specs.Block.{farmOf, Whole};
 ghost use Rattle.decide.specs.SiteSheet.{siteSheet};
 ghost use Rattle.rowwork.specs.Did.{RowsFit, Did};
-ghost use Rattle.messages.specs.Codes.{refusedBy};
+ghost use Rattle.rowwork.specs.Refused.{refusedBy};
 use kinds::Reply;
 use kinds::Site;
-use rowwork::close;
-use rowwork::say;
+use crate::close;
+use crate::say;
 
 pub fn refuse(b: &mut [u8], p: &mut [u8], site: Site, seat: usize, reply: Reply, closes: bool)
     requires { ⌜ (seat < seats) × RowsFit site × Whole (now b) × PlanOk (now p) ⌝ }
