@@ -1,4 +1,3 @@
-pub mod RequestLaws
 pub mod DiagnosticLaws
 pub mod LengthLaws
 pub mod MessageLaws

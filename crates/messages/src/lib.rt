@@ -2,4 +2,3 @@
 pub mod diagnostic; // diagnostic.rt: 8001
 pub mod fault; // fault.rt: a header judged wrong
 pub mod message; // message.rt: by what ended the call, and by the message's type
-pub mod request; // request.rt: 0005

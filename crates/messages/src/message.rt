@@ -14,7 +14,6 @@ ghost use Rattle.stream.specs.Took.{eventOf};
 ghost use Rattle.messages.specs.Length.{RightLength, EndsWell};
 use crate::diagnostic;
 use crate::fault;
-use crate::request;
 use kinds::Event;
 use kinds::FarmNo;
 use kinds::Site;

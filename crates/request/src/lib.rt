@@ -12,7 +12,7 @@ ghost use Rattle.table.specs.Block.{farmOf, Whole};
 ghost use Rattle.decide.specs.SiteSheet.{siteSheet};
 ghost use Rattle.rowwork.specs.Did.{RowsFit, Did};
 ghost use Rattle.site.specs.Site.{Sited};
-ghost use Rattle.messages.specs.Again.{againCode};
+ghost use Rattle.request.specs.Again.{againCode};
 use kinds::Decision;
 use kinds::FarmNo;
 use kinds::Request;

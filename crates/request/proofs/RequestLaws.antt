@@ -25,7 +25,7 @@ use Rattle.model.specs.Bytes.{decidedBy}
 use Rattle.model.proofs.SameSite.{SameSite, socket-same, answered-same, joined-same}
 use Rattle.octets.specs.Choice.{pick}
 use Rattle.model.specs.Line.{accepted}
-use Rattle.messages.specs.Again.{againCode}
+use Rattle.request.specs.Again.{againCode}
 
 -- "row already active: 10 if the same address, else 02."
 pub again-same : (active address : ℕ) → active ≡ address → accepted ≡ againCode active address

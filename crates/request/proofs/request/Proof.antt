@@ -9,10 +9,10 @@ use Rattle.table.specs.Block.{farmOf}
 use Rattle.decide.specs.SiteSheet.{siteSheet}
 use Rattle.rowwork.proofs.DidLaws.{did-same}
 use Rattle.site.proofs.SiteLaws.{sited-same, sited-fit}
-use Rattle.messages.proofs.RequestLaws.{decided-same}
+use Rattle.request.proofs.RequestLaws.{decided-same}
 use borrow.Author.Needs.{needs}
-use Rattle.messages.proofs.request.request.Statement.{statement}
-use Rattle.messages.proofs.request.request.Tie as tie
+use Rattle.request.proofs.request.Statement.{statement}
+use Rattle.request.proofs.request.Tie as tie
 
 decision-requires : tie.Need-decision-requires
 decision-requires c κs = (c .before .before .before .before .pre .2, c .before .before .before .before .pre .3 .long)

@@ -10,10 +10,10 @@ use Rattle.model.specs.FarmSheet.{farmSheet}
 use Rattle.table.specs.Block.{farmOf}
 use Rattle.decide.specs.SiteSheet.{siteSheet}
 use Rattle.site.proofs.SiteLaws.{sited-same}
-use Rattle.messages.proofs.RequestLaws.{decide-nobody, decide-other, decide-type, decide-state, state-same}
+use Rattle.request.proofs.RequestLaws.{decide-nobody, decide-other, decide-type, decide-state, state-same}
 use borrow.Author.Needs.{needs}
-use Rattle.messages.proofs.request.decision.Statement.{statement}
-use Rattle.messages.proofs.request.decision.Tie as tie
+use Rattle.request.proofs.decision.Statement.{statement}
+use Rattle.request.proofs.decision.Tie as tie
 
 find-tester-requires : tie.Need-find-tester-requires
 find-tester-requires c κs = good-lengths _ (c .before .before .pre .0 .good) .whole

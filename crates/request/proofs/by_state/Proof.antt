@@ -4,10 +4,10 @@ use mathlib.Core.Path.{sym, ap, _∙_}
 use Rattle.model.specs.Line.{byState}
 use Rattle.table.specs.Block.{farmOf}
 use Rattle.decide.specs.SiteSheet.{siteSheet}
-use Rattle.messages.proofs.RequestLaws.{state-active}
+use Rattle.request.proofs.RequestLaws.{state-active}
 use borrow.Author.Needs.{needs}
-use Rattle.messages.proofs.request.by_state.Statement.{statement}
-use Rattle.messages.proofs.request.by_state.Tie as tie
+use Rattle.request.proofs.by_state.Statement.{statement}
+use Rattle.request.proofs.by_state.Tie as tie
 
 state-at-requires : tie.Need-state-at-requires
 state-at-requires c κs = search needs

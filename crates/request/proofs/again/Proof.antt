@@ -1,9 +1,9 @@
 -- `request::again` meets its contract.
 -- Assumes nothing.
 use Rattle.model.specs.Line.{accepted}
-use Rattle.messages.proofs.RequestLaws.{again-same, again-other}
-use Rattle.messages.proofs.request.again.Statement.{statement}
-use Rattle.messages.proofs.request.again.Tie as tie
+use Rattle.request.proofs.RequestLaws.{again-same, again-other}
+use Rattle.request.proofs.again.Statement.{statement}
+use Rattle.request.proofs.again.Tie as tie
 
 returns : tie.Need-returns
 unfolding accepted

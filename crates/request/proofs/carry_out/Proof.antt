@@ -1,8 +1,8 @@
 -- `request::carry_out` meets its contract.
 -- Assumes nothing.
 use borrow.Author.Needs.{needs}
-use Rattle.messages.proofs.request.carry_out.Statement.{statement}
-use Rattle.messages.proofs.request.carry_out.Tie as tie
+use Rattle.request.proofs.carry_out.Statement.{statement}
+use Rattle.request.proofs.carry_out.Tie as tie
 
 enum-known-d : tie.Need-enum-known-d
 enum-known-d c = search needs
