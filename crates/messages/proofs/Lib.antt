@@ -1,3 +1,2 @@
-pub mod DiagnosticLaws
 pub mod LengthLaws
 pub mod MessageLaws

@@ -1,4 +1,3 @@
 // What the end of a bytes call brings about on one farm's block: a message that is finished, or a header judged wrong.
-pub mod diagnostic; // diagnostic.rt: 8001
 pub mod fault; // fault.rt: a header judged wrong
 pub mod message; // message.rt: by what ended the call, and by the message's type

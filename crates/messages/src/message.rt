@@ -12,7 +12,6 @@ ghost use Rattle.rowwork.specs.Did.{Did};
 ghost use Rattle.site.specs.Site.{Sited};
 ghost use Rattle.stream.specs.Took.{eventOf};
 ghost use Rattle.messages.specs.Length.{RightLength, EndsWell};
-use crate::diagnostic;
 use crate::fault;
 use kinds::Event;
 use kinds::FarmNo;

@@ -7,10 +7,10 @@ use Rattle.table.specs.Block.{farmOf}
 use Rattle.decide.specs.SiteSheet.{siteSheet}
 use Rattle.rowwork.proofs.DidLaws.{did-same}
 use Rattle.site.proofs.SiteLaws.{sited-same, sited-fit}
-use Rattle.messages.proofs.DiagnosticLaws.{diagnosed-own, diagnosed-stranger}
+use Rattle.diagnostic.proofs.DiagnosticLaws.{diagnosed-own, diagnosed-stranger}
 use borrow.Author.Needs.{needs}
-use Rattle.messages.proofs.diagnostic.diagnose.Statement.{statement}
-use Rattle.messages.proofs.diagnostic.diagnose.Tie as tie
+use Rattle.diagnostic.proofs.diagnose.Statement.{statement}
+use Rattle.diagnostic.proofs.diagnose.Tie as tie
 
 active-as-requires : tie.Need-active-as-requires
 active-as-requires c κs = search needs

@@ -10,7 +10,7 @@ ghost use Rattle.table.specs.Block.{farmOf, Whole};
 ghost use Rattle.decide.specs.SiteSheet.{siteSheet};
 ghost use Rattle.rowwork.specs.Did.{RowsFit, pushedAll, Did};
 ghost use Rattle.site.specs.Site.{Sited};
-ghost use Rattle.messages.specs.Codes.{targetCode, repliesBy};
+ghost use Rattle.diagnostic.specs.Codes.{targetCode, repliesBy};
 use rowwork::refuse;
 use kinds::FarmNo;
 use kinds::Reply;

@@ -10,10 +10,10 @@ use Rattle.plan.specs.Plan.{itemsOf, pushedTo}
 use Rattle.decide.specs.SiteSheet.{siteSheet}
 use Rattle.rowwork.specs.Did.{pushedAll}
 use Rattle.rowwork.proofs.DidLaws.{pushed-one}
-use Rattle.messages.proofs.DiagnosticLaws.{said-twice, replies-on, replies-refused}
+use Rattle.diagnostic.proofs.DiagnosticLaws.{said-twice, replies-on, replies-refused}
 use borrow.Author.Needs.{needs}
-use Rattle.messages.proofs.diagnostic.reply.Statement.{statement}
-use Rattle.messages.proofs.diagnostic.reply.Tie as tie
+use Rattle.diagnostic.proofs.reply.Statement.{statement}
+use Rattle.diagnostic.proofs.reply.Tie as tie
 
 say-requires : tie.Need-say-requires
 say-requires c κs = search needs

@@ -2,10 +2,10 @@
 -- Assumes nothing.
 use Rattle.sheet.proofs.LengthLaws.{good-lengths}
 use mathlib.Core.Path.{sym, _∙_}
-use Rattle.messages.proofs.DiagnosticLaws.{target-nobody, target-other, target-reachable, target-unreachable}
+use Rattle.diagnostic.proofs.DiagnosticLaws.{target-nobody, target-other, target-reachable, target-unreachable}
 use borrow.Author.Needs.{needs}
-use Rattle.messages.proofs.diagnostic.code_for.Statement.{statement}
-use Rattle.messages.proofs.diagnostic.code_for.Tie as tie
+use Rattle.diagnostic.proofs.code_for.Statement.{statement}
+use Rattle.diagnostic.proofs.code_for.Tie as tie
 
 find-target-requires : tie.Need-find-target-requires
 find-target-requires c κs = good-lengths _ (c .before .pre) .whole

@@ -20,7 +20,7 @@ use Rattle.model.proofs.SameSite.{SameSite}
 use Rattle.plan.specs.Plan.{pushedTo}
 use Rattle.rowwork.specs.Did.{pushedAll}
 use Rattle.rowwork.specs.Refused.{refusedBy}
-use Rattle.messages.specs.Codes.{targetCode, repliesBy}
+use Rattle.diagnostic.specs.Codes.{targetCode, repliesBy}
 
 -- ---- the target
 
