@@ -11,7 +11,6 @@ use Rattle.model.specs.Row.{isFree, freshRow}
 use Rattle.model.specs.Farm.{Farm, withRow}
 use Rattle.table.specs.Block.{farmOf, Holds}
 
-
 -- the row that was found is fresh
 abbrev pub connectedFarm : Farm → Found → Farm
 connectedFarm f Nothing = f
@@ -21,4 +20,3 @@ connectedFarm f (At seat) = withRow f seat freshRow
 pub record Connected (rows : ℕ) (before after : List ℕ) (r : Found) : Type 0 where
   pub is : r ≡ firstAt isFree 0 (take rows (farmOf before .rows))
   pub held : Holds after (connectedFarm (farmOf before) r)
-

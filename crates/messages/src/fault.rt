@@ -6,10 +6,10 @@ ghost use Rattle.table.specs.Layout.{seats};
 ghost use Rattle.table.specs.Block.{farmOf, Whole};
 ghost use Rattle.decide.specs.SiteSheet.{siteSheet};
 ghost use Rattle.rowwork.specs.Did.{RowsFit, Did};
-use rowwork::refuse;
 use kinds::Fault;
 use kinds::Reply;
 use kinds::Site;
+use rowwork::refuse;
 use wire::header;
 
 // Its NACK, and the close where the fault closes.

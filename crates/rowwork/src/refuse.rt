@@ -6,10 +6,10 @@ ghost use Rattle.table.specs.Block.{farmOf, Whole};
 ghost use Rattle.decide.specs.SiteSheet.{siteSheet};
 ghost use Rattle.rowwork.specs.Did.{RowsFit, Did};
 ghost use Rattle.rowwork.specs.Refused.{refusedBy};
-use kinds::Reply;
-use kinds::Site;
 use crate::close;
 use crate::say;
+use kinds::Reply;
+use kinds::Site;
 
 pub fn refuse(b: &mut [u8], p: &mut [u8], site: Site, seat: usize, reply: Reply, closes: bool)
     requires { ⌜ (seat < seats) × RowsFit site × Whole (now b) × PlanOk (now p) ⌝ }

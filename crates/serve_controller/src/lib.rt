@@ -12,11 +12,11 @@ ghost use Rattle.farm_controller.specs.Message.{Messaged};
 ghost use Rattle.lent.specs.Lent.{block};
 ghost use Rattle.serve.specs.Ready.{Ready};
 ghost use Rattle.serve.specs.Moved.{MessageOut};
-use serve::answer;
 use kinds::FarmNo;
 use kinds::Site;
 use lent::Answer;
 use plan::PLAN;
+use serve::answer;
 use table::BLOCK;
 
 // The farm's block is lent alone.

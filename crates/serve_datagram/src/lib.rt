@@ -11,13 +11,13 @@ ghost use Rattle.table.specs.Block.{farmOf};
 ghost use Rattle.lent.specs.Lent.{block};
 ghost use Rattle.serve.specs.Ready.{Ready};
 ghost use Rattle.serve.specs.Moved.{SaidOut};
-use serve::answer;
-use serve::at;
 use kinds::FarmNo;
 use kinds::Item;
 use kinds::RowNo;
 use lent::Answer;
 use plan::PLAN;
+use serve::answer;
+use serve::at;
 use sheet::farms;
 
 // The version that we speak.

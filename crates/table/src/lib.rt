@@ -1,4 +1,5 @@
-// One farm's block of the lent table: decoded to values where it is read, laid out where it is stored. No other crate knows a place of it.
+// One farm's block of the lent table: decoded to values where it is read, laid out where it is stored. Only this crate, table_line and
+// table_whole know a place of it.
 pub mod clock; // clock.rt: the check clock
 pub mod marks; // marks.rt: who answered
 pub mod meters; // meters.rt: taken, finished, lost
@@ -18,12 +19,12 @@ pub const TABLE: usize = FARMS * BLOCK;
 
 const METERS: usize = 0;
 
-const LINE: usize = 12;
+pub const LINE: usize = 12;
 
-const FIRST_SEAT: usize = 13;
+pub const FIRST_SEAT: usize = 13;
 
-const CLOCK: usize = 22;
+pub const CLOCK: usize = 22;
 
-const MARKS: usize = 24;
+pub const MARKS: usize = 24;
 
-const ROWS: usize = 33;
+pub const ROWS: usize = 33;

@@ -4,13 +4,13 @@ ghost use lib.ListN.{length};
 ghost use Rattle.octets.specs.Says.{Says};
 ghost use Rattle.table.specs.Layout.{blockSize};
 ghost use Rattle.table.specs.Block.{Whole, LineOk, MarksOk, RowsOk};
+use rowbytes::ROW;
 use table::BLOCK;
 use table::FIRST_SEAT;
 use table::LINE;
 use table::MARKS;
 use table::ROWS;
 use table::SEATS;
-use rowbytes::ROW;
 
 fn line_ok(b: &[u8]) -> bool
     requires { ⌜ length (now b) ≡ blockSize ⌝ }
