@@ -19,10 +19,8 @@ use kinds::RowNo;
 use lent::Answer;
 use outsheet::plan;
 use outsheet::plan::PLAN;
+use rowwork::say::VERSION;
 use sheet::farms;
-
-// The version that we speak.
-const VERSION: u8 = 3;
 
 // "A datagram's reply has row 255."
 fn push_answer(p: &mut [u8], a: kinds::Answer)
