@@ -4,8 +4,8 @@ ghost use Prim.Native.Nat.{ℕ};
 ghost use mathlib.Core.Path.{_≡_};
 ghost use mathlib.Core.List.{List};
 ghost use Rattle.model.specs.Table.{slot, connectTo, bytesFrom, peerClosedOn, linkLostOf, tick, datagramTo, messageFrom};
-ghost use Rattle.lent.specs.Lent.{lentTable, lentStep, lentStart};
-ghost use Rattle.lent.specs.Served.{memory, Served};
+ghost use Rattle.lent.specs.Lent.{lentTable};
+ghost use Rattle.lent.specs.Served.{memory, CallServed, StartServed};
 ghost use Rattle.dokrawin.specs.Meters.{metersOf};
 use gateway::bytes;
 use gateway::closed;
@@ -27,7 +27,7 @@ pub extern "C" fn dokrawin_start(
     output: &mut [u8],
     assembling: &[u8],
 ) -> Answer
-    ensures { λ r. ⌜ Served (now (sheet .entry)) (lentStart (now (sheet .entry)) (now (table .entry)) (now (output .entry)) (now (assembling .entry))) r (memory (now (table .entry)) (now (output .entry)) (now (assembling .entry))) (memory (now (table .exit)) (now (output .exit)) (now (assembling .entry))) ⌝ }
+    ensures { λ r. ⌜ StartServed (now (sheet .entry)) r (memory (now (table .entry)) (now (output .entry)) (now (assembling .entry))) (memory (now (table .exit)) (now (output .exit)) (now (assembling .entry))) ⌝ }
 {
     start::start(sheet, table, output, assembling)
 }
@@ -40,7 +40,7 @@ pub extern "C" fn dokrawin_connect(
     assembling: &[u8],
     farm: u8,
 ) -> Answer
-    ensures { λ r. ⌜ Served (now (sheet .entry)) (lentStep (now (sheet .entry)) (now (table .entry)) (now (output .entry)) (now (assembling .entry)) (connectTo farm)) r (memory (now (table .entry)) (now (output .entry)) (now (assembling .entry))) (memory (now (table .exit)) (now (output .exit)) (now (assembling .entry))) ⌝ }
+    ensures { λ r. ⌜ CallServed (now (sheet .entry)) (connectTo farm) r (memory (now (table .entry)) (now (output .entry)) (now (assembling .entry))) (memory (now (table .exit)) (now (output .exit)) (now (assembling .entry))) ⌝ }
 {
     connect::connect(sheet, table, output, assembling, FarmNo(farm))
 }
@@ -54,7 +54,7 @@ pub extern "C" fn dokrawin_bytes(
     row: u8,
     input: &[u8],
 ) -> Answer
-    ensures { λ r. ⌜ Served (now (sheet .entry)) (lentStep (now (sheet .entry)) (now (table .entry)) (now (output .entry)) (now (assembling .entry)) (bytesFrom row (now (input .entry)))) r (memory (now (table .entry)) (now (output .entry)) (now (assembling .entry))) (memory (now (table .exit)) (now (output .exit)) (now (assembling .exit))) ⌝ }
+    ensures { λ r. ⌜ CallServed (now (sheet .entry)) (bytesFrom row (now (input .entry))) r (memory (now (table .entry)) (now (output .entry)) (now (assembling .entry))) (memory (now (table .exit)) (now (output .exit)) (now (assembling .exit))) ⌝ }
 {
     bytes::bytes(sheet, table, output, assembling, RowNo(row), input)
 }
@@ -67,7 +67,7 @@ pub extern "C" fn dokrawin_peer_closed(
     assembling: &[u8],
     row: u8,
 ) -> Answer
-    ensures { λ r. ⌜ Served (now (sheet .entry)) (lentStep (now (sheet .entry)) (now (table .entry)) (now (output .entry)) (now (assembling .entry)) (peerClosedOn row)) r (memory (now (table .entry)) (now (output .entry)) (now (assembling .entry))) (memory (now (table .exit)) (now (output .exit)) (now (assembling .entry))) ⌝ }
+    ensures { λ r. ⌜ CallServed (now (sheet .entry)) (peerClosedOn row) r (memory (now (table .entry)) (now (output .entry)) (now (assembling .entry))) (memory (now (table .exit)) (now (output .exit)) (now (assembling .entry))) ⌝ }
 {
     closed::peer_closed(sheet, table, output, assembling, RowNo(row))
 }
@@ -80,7 +80,7 @@ pub extern "C" fn dokrawin_link_lost(
     assembling: &[u8],
     farm: u8,
 ) -> Answer
-    ensures { λ r. ⌜ Served (now (sheet .entry)) (lentStep (now (sheet .entry)) (now (table .entry)) (now (output .entry)) (now (assembling .entry)) (linkLostOf farm)) r (memory (now (table .entry)) (now (output .entry)) (now (assembling .entry))) (memory (now (table .exit)) (now (output .exit)) (now (assembling .entry))) ⌝ }
+    ensures { λ r. ⌜ CallServed (now (sheet .entry)) (linkLostOf farm) r (memory (now (table .entry)) (now (output .entry)) (now (assembling .entry))) (memory (now (table .exit)) (now (output .exit)) (now (assembling .entry))) ⌝ }
 {
     closed::link_lost(sheet, table, output, assembling, FarmNo(farm))
 }
@@ -92,7 +92,7 @@ pub extern "C" fn dokrawin_tick(
     output: &mut [u8],
     assembling: &[u8],
 ) -> Answer
-    ensures { λ r. ⌜ Served (now (sheet .entry)) (lentStep (now (sheet .entry)) (now (table .entry)) (now (output .entry)) (now (assembling .entry)) tick) r (memory (now (table .entry)) (now (output .entry)) (now (assembling .entry))) (memory (now (table .exit)) (now (output .exit)) (now (assembling .entry))) ⌝ }
+    ensures { λ r. ⌜ CallServed (now (sheet .entry)) tick r (memory (now (table .entry)) (now (output .entry)) (now (assembling .entry))) (memory (now (table .exit)) (now (output .exit)) (now (assembling .entry))) ⌝ }
 {
     tick::tick(sheet, table, output, assembling)
 }
@@ -106,7 +106,7 @@ pub extern "C" fn dokrawin_datagram(
     farm: u8,
     input: &[u8],
 ) -> Answer
-    ensures { λ r. ⌜ Served (now (sheet .entry)) (lentStep (now (sheet .entry)) (now (table .entry)) (now (output .entry)) (now (assembling .entry)) (datagramTo farm (now (input .entry)))) r (memory (now (table .entry)) (now (output .entry)) (now (assembling .entry))) (memory (now (table .entry)) (now (output .exit)) (now (assembling .entry))) ⌝ }
+    ensures { λ r. ⌜ CallServed (now (sheet .entry)) (datagramTo farm (now (input .entry))) r (memory (now (table .entry)) (now (output .entry)) (now (assembling .entry))) (memory (now (table .entry)) (now (output .exit)) (now (assembling .entry))) ⌝ }
 {
     datagrams::datagram(sheet, table, output, assembling, FarmNo(farm), input)
 }
@@ -122,7 +122,7 @@ pub extern "C" fn dokrawin_controller_message(
     tester: u16,
     user: &[u8],
 ) -> Answer
-    ensures { λ r. ⌜ Served (now (sheet .entry)) (lentStep (now (sheet .entry)) (now (table .entry)) (now (output .entry)) (now (assembling .entry)) (messageFrom farm controller tester (now (user .entry)))) r (memory (now (table .entry)) (now (output .entry)) (now (assembling .entry))) (memory (now (table .entry)) (now (output .exit)) (now (assembling .entry))) ⌝ }
+    ensures { λ r. ⌜ CallServed (now (sheet .entry)) (messageFrom farm controller tester (now (user .entry))) r (memory (now (table .entry)) (now (output .entry)) (now (assembling .entry))) (memory (now (table .entry)) (now (output .exit)) (now (assembling .entry))) ⌝ }
 {
     controller::controller_message(
         sheet,

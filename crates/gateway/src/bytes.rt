@@ -1,7 +1,6 @@
 // "bytes from a row".
 ghost use Rattle.model.specs.Table.{bytesFrom};
-ghost use Rattle.lent.specs.Lent.{lentStep};
-ghost use Rattle.lent.specs.Served.{memory, Served};
+ghost use Rattle.lent.specs.Served.{memory, CallServed};
 use kinds::RowNo;
 use lent::Answer;
 use serve::answer;
@@ -18,7 +17,7 @@ pub fn bytes(
     row: RowNo,
     input: &[u8],
 ) -> Answer
-    ensures { λ r. ⌜ Served (now (s .entry)) (lentStep (now (s .entry)) (now (t .entry)) (now (out .entry)) (now (m .entry)) (bytesFrom (row .0) (now (input .entry)))) r (memory (now (t .entry)) (now (out .entry)) (now (m .entry))) (memory (now (t .exit)) (now (out .exit)) (now (m .exit))) ⌝ }
+    ensures { λ r. ⌜ CallServed (now (s .entry)) (bytesFrom (row .0) (now (input .entry))) r (memory (now (t .entry)) (now (out .entry)) (now (m .entry))) (memory (now (t .exit)) (now (out .exit)) (now (m .exit))) ⌝ }
 {
     let n = gate::refusal(s, t, out, m);
     if 0 < n {

@@ -1,7 +1,6 @@
 // Rows that close from outside: "peer closed", "link of a farm lost".
 ghost use Rattle.model.specs.Table.{peerClosedOn, linkLostOf};
-ghost use Rattle.lent.specs.Lent.{lentStep};
-ghost use Rattle.lent.specs.Served.{memory, Served};
+ghost use Rattle.lent.specs.Served.{memory, CallServed};
 use kinds::FarmNo;
 use kinds::RowNo;
 use lent::Answer;
@@ -13,7 +12,7 @@ use table::TABLE;
 
 // "Peer closed gives one close for that row."
 pub fn peer_closed(s: &[u8], t: &mut [u8; TABLE], out: &mut [u8], m: &[u8], row: RowNo) -> Answer
-    ensures { λ r. ⌜ Served (now (s .entry)) (lentStep (now (s .entry)) (now (t .entry)) (now (out .entry)) (now (m .entry)) (peerClosedOn (row .0))) r (memory (now (t .entry)) (now (out .entry)) (now (m .entry))) (memory (now (t .exit)) (now (out .exit)) (now (m .entry))) ⌝ }
+    ensures { λ r. ⌜ CallServed (now (s .entry)) (peerClosedOn (row .0)) r (memory (now (t .entry)) (now (out .entry)) (now (m .entry))) (memory (now (t .exit)) (now (out .exit)) (now (m .entry))) ⌝ }
 {
     let n = gate::refusal(s, t, out, m);
     if 0 < n {
@@ -32,7 +31,7 @@ pub fn peer_closed(s: &[u8], t: &mut [u8; TABLE], out: &mut [u8], m: &[u8], row:
 
 // "Link lost: one close per open row, lowest first."
 pub fn link_lost(s: &[u8], t: &mut [u8; TABLE], out: &mut [u8], m: &[u8], f: FarmNo) -> Answer
-    ensures { λ r. ⌜ Served (now (s .entry)) (lentStep (now (s .entry)) (now (t .entry)) (now (out .entry)) (now (m .entry)) (linkLostOf (f .0))) r (memory (now (t .entry)) (now (out .entry)) (now (m .entry))) (memory (now (t .exit)) (now (out .exit)) (now (m .entry))) ⌝ }
+    ensures { λ r. ⌜ CallServed (now (s .entry)) (linkLostOf (f .0)) r (memory (now (t .entry)) (now (out .entry)) (now (m .entry))) (memory (now (t .exit)) (now (out .exit)) (now (m .entry))) ⌝ }
 {
     let n = gate::refusal(s, t, out, m);
     if 0 < n {

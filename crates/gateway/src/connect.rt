@@ -1,7 +1,6 @@
 // "connect": "Connect opens the lowest free row of the farm, so freed rows are used again."
 ghost use Rattle.model.specs.Table.{connectTo};
-ghost use Rattle.lent.specs.Lent.{lentStep};
-ghost use Rattle.lent.specs.Served.{memory, Served};
+ghost use Rattle.lent.specs.Served.{memory, CallServed};
 use kinds::FarmNo;
 use lent::Answer;
 use octets::Found;
@@ -10,7 +9,7 @@ use sheet::farms;
 use table::TABLE;
 
 pub fn connect(s: &[u8], t: &mut [u8; TABLE], out: &mut [u8], m: &[u8], f: FarmNo) -> Answer
-    ensures { λ r. ⌜ Served (now (s .entry)) (lentStep (now (s .entry)) (now (t .entry)) (now (out .entry)) (now (m .entry)) (connectTo (f .0))) r (memory (now (t .entry)) (now (out .entry)) (now (m .entry))) (memory (now (t .exit)) (now (out .exit)) (now (m .entry))) ⌝ }
+    ensures { λ r. ⌜ CallServed (now (s .entry)) (connectTo (f .0)) r (memory (now (t .entry)) (now (out .entry)) (now (m .entry))) (memory (now (t .exit)) (now (out .exit)) (now (m .entry))) ⌝ }
 {
     let n = gate::refusal(s, t, out, m);
     if 0 < n {

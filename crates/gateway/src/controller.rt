@@ -1,7 +1,6 @@
 // "message from a controller". It changes nothing of the table.
 ghost use Rattle.model.specs.Table.{messageFrom};
-ghost use Rattle.lent.specs.Lent.{lentStep};
-ghost use Rattle.lent.specs.Served.{memory, Served};
+ghost use Rattle.lent.specs.Served.{memory, CallServed};
 use kinds::FarmNo;
 use lent::Answer;
 use serve::answer;
@@ -18,7 +17,7 @@ pub fn controller_message(
     tester: u16,
     user: &[u8],
 ) -> Answer
-    ensures { λ r. ⌜ Served (now (s .entry)) (lentStep (now (s .entry)) (now (t .entry)) (now (out .entry)) (now (m .entry)) (messageFrom (f .0) controller tester (now (user .entry)))) r (memory (now (t .entry)) (now (out .entry)) (now (m .entry))) (memory (now (t .entry)) (now (out .exit)) (now (m .entry))) ⌝ }
+    ensures { λ r. ⌜ CallServed (now (s .entry)) (messageFrom (f .0) controller tester (now (user .entry))) r (memory (now (t .entry)) (now (out .entry)) (now (m .entry))) (memory (now (t .entry)) (now (out .exit)) (now (m .entry))) ⌝ }
 {
     let n = gate::refusal(s, t, out, m);
     if 0 < n {

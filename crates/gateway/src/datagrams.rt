@@ -1,7 +1,6 @@
 // "datagram". It changes nothing of the table.
 ghost use Rattle.model.specs.Table.{datagramTo};
-ghost use Rattle.lent.specs.Lent.{lentStep};
-ghost use Rattle.lent.specs.Served.{memory, Served};
+ghost use Rattle.lent.specs.Served.{memory, CallServed};
 use kinds::FarmNo;
 use lent::Answer;
 use serve::answer;
@@ -16,7 +15,7 @@ pub fn datagram(
     f: FarmNo,
     input: &[u8],
 ) -> Answer
-    ensures { λ r. ⌜ Served (now (s .entry)) (lentStep (now (s .entry)) (now (t .entry)) (now (out .entry)) (now (m .entry)) (datagramTo (f .0) (now (input .entry)))) r (memory (now (t .entry)) (now (out .entry)) (now (m .entry))) (memory (now (t .entry)) (now (out .exit)) (now (m .entry))) ⌝ }
+    ensures { λ r. ⌜ CallServed (now (s .entry)) (datagramTo (f .0) (now (input .entry))) r (memory (now (t .entry)) (now (out .entry)) (now (m .entry))) (memory (now (t .entry)) (now (out .exit)) (now (m .entry))) ⌝ }
 {
     let n = gate::refusal(s, t, out, m);
     if 0 < n {

@@ -1,8 +1,7 @@
 // "start a fresh table": "A new table holds all rows free and all meters 0."
 ghost use mathlib.Core.Path.{_≡_};
 ghost use lib.ListN.{length, replicate};
-ghost use Rattle.lent.specs.Lent.{lentStart};
-ghost use Rattle.lent.specs.Served.{memory, Served};
+ghost use Rattle.lent.specs.Served.{memory, StartServed};
 use lent::Answer;
 use serve::answer;
 use table::TABLE;
@@ -19,7 +18,7 @@ fn clear(t: &mut [u8])
 }
 
 pub fn start(s: &[u8], t: &mut [u8; TABLE], out: &mut [u8], m: &[u8]) -> Answer
-    ensures { λ r. ⌜ Served (now (s .entry)) (lentStart (now (s .entry)) (now (t .entry)) (now (out .entry)) (now (m .entry))) r (memory (now (t .entry)) (now (out .entry)) (now (m .entry))) (memory (now (t .exit)) (now (out .exit)) (now (m .entry))) ⌝ }
+    ensures { λ r. ⌜ StartServed (now (s .entry)) r (memory (now (t .entry)) (now (out .entry)) (now (m .entry))) (memory (now (t .exit)) (now (out .exit)) (now (m .entry))) ⌝ }
 {
     let n = gate::start_refusal(s, out, m);
     if 0 < n {

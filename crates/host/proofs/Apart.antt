@@ -30,10 +30,10 @@ use Rattle.model.proofs.MeterSlot.{slot-set}
 use Rattle.table.specs.Block.{farmOf, image}
 use Rattle.lent.specs.declared.Answer.{Answer}
 use Rattle.lent.specs.Lent.{block, wholeTable, heldAt, lentTable}
-use Rattle.lent.specs.Served.{Memory}
+use Rattle.lent.specs.Served.{Memory, CallServed}
 use Rattle.lent.proofs.LentLaws.{slot-is}
 use Rattle.lent.proofs.BytesLaws.{whole-exact}
-use Rattle.host.specs.Calls.{CallServed, made}
+use Rattle.host.specs.Calls.{made}
 use Rattle.host.proofs.HistoryLaws.{call-means, call-whole}
 
 -- ---- another farm

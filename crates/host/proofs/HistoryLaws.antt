@@ -16,9 +16,9 @@ use Rattle.model.proofs.RuleKept.{renewed-fresh}
 use Rattle.lent.specs.declared.Answer.{Answer}
 use Rattle.lent.specs.Lent.{wholeTable, lentTable, lentOf, lentStep, lentStart}
 use Rattle.lent.specs.Gate.{startNumber, Lendable}
-use Rattle.lent.specs.Served.{wholeAfter, Memory, memory, Served}
+use Rattle.lent.specs.Served.{wholeAfter, Memory, memory, Served, CallServed}
 use Rattle.lent.proofs.GateLaws.{started, start-refuses, start-passes, starts}
-use Rattle.host.specs.Calls.{CallServed, made, Calls, none, more, Began}
+use Rattle.host.specs.Calls.{made, Calls, none, more, Began}
 
 -- ---- one call
 

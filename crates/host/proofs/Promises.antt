@@ -33,10 +33,10 @@ use Rattle.model.proofs.Promises as rules
 use Rattle.table.specs.Block.{farmOf}
 use Rattle.lent.specs.declared.Answer.{Answer}
 use Rattle.lent.specs.Lent.{block, heldAt, lentTable, lentStep, lentStart}
-use Rattle.lent.specs.Served.{Memory, memory, Served}
+use Rattle.lent.specs.Served.{Memory, memory, Served, CallServed, StartServed}
 use Rattle.lent.proofs.LentLaws.{slot-is}
 use Rattle.lent.proofs.ServedLaws.{served-once}
-use Rattle.host.specs.Calls.{CallServed, StartServed, made, Calls, Began}
+use Rattle.host.specs.Calls.{made, Calls, Began}
 use Rattle.host.proofs.HistoryLaws.{lent-step, call-means, rooms, began-lendable, began-fresh, history-means, history-whole}
 use Rattle.host.proofs.RoomLaws.{rooms-slots, rooms-count, room-long, room-none}
 

@@ -7,18 +7,8 @@ use mathlib.Core.List.{List, [], _∷_}
 use Rattle.model.specs.Table.{Call}
 use Rattle.model.specs.History.{Made}
 use Rattle.lent.specs.declared.Answer.{Answer}
-use Rattle.lent.specs.Lent.{lentOf, lentStep, lentStart}
-use Rattle.lent.specs.Served.{Memory, memory, Served}
-
--- What the contract of each public call says. The call c is one of connectTo (gateway's connect), bytesFrom (bytes), peerClosedOn
--- (peer_closed), linkLostOf (link_lost), tick (tick), datagramTo (datagram), messageFrom (controller_message); each of these functions
--- ensures just this of its own c.
-abbrev pub CallServed : List ℕ → Call → Answer → Memory → Memory → Type 0
-CallServed s c a before after = Served s (lentStep s (before .table) (before .output) (before .assembling) c) a before after
-
--- and the contract of gateway's start
-abbrev pub StartServed : List ℕ → Answer → Memory → Memory → Type 0
-StartServed s a before after = Served s (lentStart s (before .table) (before .output) (before .assembling)) a before after
+use Rattle.lent.specs.Lent.{lentOf}
+use Rattle.lent.specs.Served.{Memory, memory, CallServed, StartServed}
 
 -- the call, as the rules see it
 abbrev pub made : List ℕ → List ℕ → Call → Made

@@ -9,9 +9,9 @@ use Rattle.octets.specs.Put.{putAt}
 use Rattle.outsheet.specs.Sheet.{sheetOf}
 use Rattle.outsheet.specs.Replies.{entriesOf}
 use Rattle.model.specs.Move.{noRow}
-use Rattle.model.specs.Table.{Did, Outcome, refuses, did, numberOf, rowOf, tookOf, tableOf}
+use Rattle.model.specs.Table.{Call, Did, Outcome, refuses, did, numberOf, rowOf, tookOf, tableOf}
 use Rattle.lent.specs.declared.Answer.{Answer}
-use Rattle.lent.specs.Lent.{wholeTable, lentTable, tableBytes, roomBytes}
+use Rattle.lent.specs.Lent.{wholeTable, lentTable, tableBytes, roomBytes, lentStep, lentStart}
 
 -- "A refusal returns its number, output length 0, bytes taken 0, row 255."; "Answer 0 is done"
 abbrev pub refusal : ℕ → Answer
@@ -69,3 +69,14 @@ pub record Served (s : List ℕ) (o : Outcome) (a : Answer) (before after : Memo
   pub means :
       lentTable s (after .table) (after .assembling) ≡ tableOf (lentTable s (before .table) (before .assembling)) o
   pub whole : wholeTable (after .table) ≡ wholeAfter (before .table) o
+
+-- ---- THE CONTRACTS OF THE PUBLIC CALLS: gateway's functions and those for C ensure just these, and the promises of the crate host are of them
+
+-- c is one of connectTo (the function connect), bytesFrom (bytes), peerClosedOn (peer_closed), linkLostOf (link_lost), tick (tick),
+-- datagramTo (datagram), messageFrom (controller_message)
+abbrev pub CallServed : List ℕ → Call → Answer → Memory → Memory → Type 0
+CallServed s c a before after = Served s (lentStep s (before .table) (before .output) (before .assembling) c) a before after
+
+-- of start
+abbrev pub StartServed : List ℕ → Answer → Memory → Memory → Type 0
+StartServed s a before after = Served s (lentStart s (before .table) (before .output) (before .assembling)) a before after

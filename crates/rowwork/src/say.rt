@@ -16,7 +16,7 @@ use kinds::RowState;
 use kinds::Site;
 
 // The version that we speak.
-const VERSION: u8 = 3;
+pub const VERSION: u8 = 3;
 
 pub fn say(p: &mut [u8], site: Site, seat: usize, reply: Reply)
     requires { ⌜ (seat < seats) × RowsFit site × PlanOk (now p) ⌝ }

@@ -16,12 +16,10 @@ use kinds::Item;
 use kinds::RowNo;
 use lent::Answer;
 use plan::PLAN;
+use rowwork::say::VERSION;
 use serve::answer;
 use serve::at;
 use sheet::farms;
-
-// The version that we speak.
-const VERSION: u8 = 3;
 
 // "A datagram's reply has row 255."
 fn push_answer(p: &mut [u8], a: kinds::Answer)
