@@ -13,7 +13,7 @@ const ASSEMBLING: usize = 32768;
 pub fn start_refusal(s: &[u8], out: &[u8], m: &[u8]) -> u8
     ensures { λ r. ⌜ r ≡ startNumber (now (s .entry)) (now (out .entry)) (now (m .entry)) ⌝ }
 {
-    if !sheet::rules::sheet_ok(s) {
+    if !sheet_rules::sheet_ok(s) {
         return 1;
     }
     if out.len() < LEAST_OUTPUT {

@@ -59,7 +59,7 @@ pub fn say_farms(text: &mut [u8], used: usize, s: &[u8], t: &[u8; TABLE]) -> usi
     requires { ⌜ (used ≤ length (now text)) × (length (now text) ≡ textSize) ⌝ }
     ensures { λ r. ⌜ r ≤ textSize ⌝ }
 {
-    if !sheet::rules::sheet_ok(s) {
+    if !sheet_rules::sheet_ok(s) {
         return used;
     }
     let n = sheet::head::farm_count(s);

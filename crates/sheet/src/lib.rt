@@ -1,10 +1,9 @@
-// The farm sheet in its lent bytes: refusal 1, the farms, the lookups, and whose row is whose.
-// Document 01's rules stand in specs/; here is only how they are tested and read.
+// The farm sheet in its lent bytes: its counts, its farms, the lookups, and whose row is whose.
+// Document 01's rules of a sheet stand in specs/; the crate sheet_rules tests them.
 pub mod farms;
 pub mod find;
 pub mod head;
 pub mod rows;
-pub mod rules;
 
 // Where things stand, as specs/Sheet.antt has it.
 const HEAD_SIZE: usize = 12;

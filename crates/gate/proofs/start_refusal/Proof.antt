@@ -12,7 +12,7 @@ use Rattle.gate.proofs.start_refusal.Statement.{statement}
 use Rattle.gate.proofs.start_refusal.Tie as tie
 use Rattle.gate.proofs.start_refusal.Reads as reads
 use Rattle.gate.proofs.start_refusal.Lts as lts
-use Rattle.sheet.proofs.rules.sheet_ok.Reads as sheet-ok-reads
+use Rattle.sheet_rules.proofs.sheet_ok.Reads as sheet-ok-reads
 
 sheet-ok-requires : tie.Need-sheet-ok-requires
 sheet-ok-requires c κs = search needs

@@ -3,8 +3,8 @@
 use native.Mathlib.Omega.{arith}
 use Rattle.octets.proofs.SaysLaws.{says-yes, says-no}
 use borrow.Author.Needs.{needs}
-use Rattle.sheet.proofs.rules.head_ok.Statement.{statement}
-use Rattle.sheet.proofs.rules.head_ok.Tie as tie
+use Rattle.sheet_rules.proofs.head_ok.Statement.{statement}
+use Rattle.sheet_rules.proofs.head_ok.Tie as tie
 
 read16-requires : tie.Need-read16-requires
 read16-requires c κs = search needs

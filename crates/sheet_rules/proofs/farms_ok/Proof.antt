@@ -6,13 +6,13 @@ use native.Mathlib.Omega.{arith}
 use native.Mathlib.Numerals.{add-one}
 use borrow.Author.Count.{below-none, below-more}
 use denote.Ref.{now}
 use Rattle.sheet.specs.Sheet.{mostRows}
 use Rattle.sheet.specs.Rules.{GoodFarm, GoodFarms}
 use Rattle.sheet.specs.Rows.{firstRow}
 use Rattle.octets.proofs.SaysLaws.{says-yes, says-no}
 use Rattle.sheet.proofs.RowsLaws.{rows-mono}
-use Rattle.sheet.proofs.rules.farms_ok.Statement.{statement}
-use Rattle.sheet.proofs.rules.farms_ok.Tie as tie
+use Rattle.sheet_rules.proofs.farms_ok.Statement.{statement}
+use Rattle.sheet_rules.proofs.farms_ok.Tie as tie
 
 abbrev Inv-loop : tie.InvT-loop
 Inv-loop s n left₀ i₀ left i = (i ≤ n) × (left + firstRow s i ≡ mostRows) × ((f : ℕ) → f < i → GoodFarm s f)

@@ -6,13 +6,13 @@ use native.Mathlib.Omega.{arith}
 use borrow.Author.Tests.{not-true, not-false}
 use denote.Ref.{now}
 use Rattle.octets.specs.Says.{Says}
 use Rattle.sheet.specs.Sheet.{farmCount, testerCount, targetCount, testersAt, targetsAt, testerFlag, targetFlag}
 use Rattle.sheet.specs.Rules.{GoodHead, GoodFarms, GoodSection}
 use Rattle.octets.proofs.SaysLaws.{says-yes, says-no, refuted}
 use Rattle.sheet.proofs.RulesLaws.{says-section}
 use borrow.Author.Needs.{needs}
-use Rattle.sheet.proofs.rules.sheet_ok.Statement.{statement}
-use Rattle.sheet.proofs.rules.sheet_ok.Tie as tie
+use Rattle.sheet_rules.proofs.sheet_ok.Statement.{statement}
+use Rattle.sheet_rules.proofs.sheet_ok.Tie as tie
 
 -- what each test says, of the sheet's own counts and places
 head : (c : tie.Else2) → GoodHead (now (c .before .before .before .before .args .s))

@@ -7,9 +7,9 @@ use native.Mathlib.Numerals.{add-one}
 use borrow.Author.Count.{below-none, below-more}
 use denote.Ref.{now}
 use Rattle.octets.proofs.SaysLaws.{says-yes, says-no}
 use Rattle.sheet.proofs.RulesLaws.{addressBefore, PassedTo, section-good, section-passed}
-use Rattle.sheet.proofs.rules.section_ok.Statement.{statement}
-use Rattle.sheet.proofs.rules.section_ok.Tie as tie
+use Rattle.sheet_rules.proofs.section_ok.Statement.{statement}
+use Rattle.sheet_rules.proofs.section_ok.Tie as tie
 
 abbrev Inv-loop : tie.InvT-loop
 Inv-loop s at n farms most last₀ i₀ last i = (i ≤ n) × (last ≡ addressBefore s at i) × PassedTo s at farms most i

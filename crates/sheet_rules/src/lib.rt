@@ -3,16 +3,16 @@
 ghost use Prim.Native.Nat.{_+_, _*_, _≤_};
 ghost use lib.ListN.{length};
 ghost use Rattle.octets.specs.Says.{Says};
 ghost use Rattle.sheet.specs.Sheet.{headSize, farmSize, knownSize};
 ghost use Rattle.sheet.specs.Rules.{GoodHead, GoodFarms, GoodSection, GoodSheet};
-use crate::FARM_SIZE;
-use crate::HEAD_SIZE;
-use crate::KNOWN_SIZE;
-use crate::head::farm_count;
-use crate::head::target_count;
-use crate::head::targets_at;
-use crate::head::tester_count;
-use crate::head::testers_at;
+use sheet::head;
+
+// Where things stand, as the sheet's specs/Sheet.antt has it.
+const HEAD_SIZE: usize = 12;
+
+const FARM_SIZE: usize = 33;
+
+const KNOWN_SIZE: usize = 4;
 
 const MOST_FARMS: usize = 4;
 
@@ -138,14 +138,26 @@ pub fn sheet_ok(s: &[u8]) -> bool
     if !head_ok(s) {
         return false;
     }
-    let farms = farm_count(s);
+    let farms = head::farm_count(s);
     if !farms_ok(s, farms) {
         return false;
     }
-    if !section_ok(s, testers_at(s), tester_count(s), farms, TESTER_FLAG) {
+    if !section_ok(
+        s,
+        head::testers_at(s),
+        head::tester_count(s),
+        farms,
+        TESTER_FLAG,
+    ) {
         return false;
     }
-    if !section_ok(s, targets_at(s), target_count(s), farms, TARGET_FLAG) {
+    if !section_ok(
+        s,
+        head::targets_at(s),
+        head::target_count(s),
+        farms,
+        TARGET_FLAG,
+    ) {
         return false;
     }
     true
