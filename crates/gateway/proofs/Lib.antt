@@ -1,3 +1,2 @@
 pub mod MeterLaws
-pub mod CallsLaws
 pub mod BytesLaws

@@ -3,3 +3,4 @@ pub mod BlockLaws
 pub mod MovedLaws
 pub mod ServeLaws
 pub mod SaidLaws
+pub mod CallsLaws

@@ -9,7 +9,7 @@ use Rattle.lent.proofs.GateLaws.{gate-passes}
 use Rattle.lent.proofs.CallLaws.{refused-as, gate-served}
 use Rattle.model.specs.Move.{linkLost}
 use Rattle.serve.proofs.ServeLaws.{ready-of, farm-unknown}
-use Rattle.gateway.proofs.CallsLaws.{link-served}
+use Rattle.serve.proofs.CallsLaws.{link-served}
 use borrow.Author.Needs.{needs}
 use Rattle.gateway.proofs.closed.link_lost.Statement.{statement}
 use Rattle.gateway.proofs.closed.link_lost.Tie as tie

@@ -11,7 +11,7 @@ use Rattle.lent.proofs.CallLaws.{refused-as, gate-served}
 use Rattle.model.specs.Move.{peerClosed}
 use Rattle.sheet.proofs.RowsLaws.{owner-seat, owned-few}
 use Rattle.serve.proofs.ServeLaws.{ready-of, row-unknown}
-use Rattle.gateway.proofs.CallsLaws.{peer-not-open, peer-served}
+use Rattle.serve.proofs.CallsLaws.{peer-not-open, peer-served}
 use borrow.Author.Needs.{needs}
 use Rattle.gateway.proofs.closed.peer_closed.Statement.{statement}
 use Rattle.gateway.proofs.closed.peer_closed.Tie as tie

@@ -15,7 +15,7 @@ use Rattle.farm.proofs.RowsLaws.{connected-below}
 use Rattle.lent.proofs.GateLaws.{gate-passes}
 use Rattle.lent.proofs.CallLaws.{refused-as, gate-served}
 use Rattle.serve.proofs.ServeLaws.{ready-of, farm-unknown}
-use Rattle.gateway.proofs.CallsLaws.{connect-refused, connect-served}
+use Rattle.serve.proofs.CallsLaws.{connect-refused, connect-served}
 use borrow.Author.Needs.{needs}
 use Rattle.gateway.proofs.connect.connect.Statement.{statement}
 use Rattle.gateway.proofs.connect.connect.Tie as tie
