@@ -13,7 +13,6 @@ use gateway::connect;
 use gateway::controller;
 use gateway::datagrams;
 use gateway::meters;
-use gateway::start;
 use gateway::tick;
 use kinds::FarmNo;
 use kinds::RowNo;
@@ -29,7 +28,7 @@ pub extern "C" fn dokrawin_start(
 ) -> Answer
     ensures { λ r. ⌜ StartServed (now (sheet .entry)) r (memory (now (table .entry)) (now (output .entry)) (now (assembling .entry))) (memory (now (table .exit)) (now (output .exit)) (now (assembling .entry))) ⌝ }
 {
-    start::start(sheet, table, output, assembling)
+    call_start::start(sheet, table, output, assembling)
 }
 
 #[no_mangle]

@@ -7,5 +7,4 @@ pub mod connect; // connect.rt: connect
 pub mod controller; // controller.rt: message from a controller
 pub mod datagrams; // datagrams.rt: datagram
 pub mod meters; // meters.rt: a farm's meters
-pub mod start; // start.rt: a fresh table
 pub mod tick; // tick.rt: tick

@@ -55,7 +55,7 @@ fn make(
     ensures { λ r. ⌜ Served (now (s .entry)) (played call (now (rest .entry)) (now (s .entry)) (now (t .entry)) (now (out .entry)) (now (m .entry))) r (memory (now (t .entry)) (now (out .entry)) (now (m .entry))) (memory (now (t .exit)) (now (out .exit)) (now (m .exit))) ⌝ }
 {
     match call {
-        Call::Start => gateway::start::start(s, t, out, m),
+        Call::Start => call_start::start(s, t, out, m),
         Call::Connect(f) => gateway::connect::connect(s, t, out, m, f),
         Call::Bytes(row) => gateway::bytes::bytes(s, t, out, m, row, rest),
         Call::Closed(row) => gateway::closed::peer_closed(s, t, out, m, row),

@@ -5,10 +5,10 @@ use native.Mathlib.Omega.{arith}
 use lib.ListN.{length}
 use borrow.Author.Needs.{needs}
 use Rattle.lent.proofs.ZeroLaws.{Zeros, zeros-none, zeros-more, zeros-all}
-use Rattle.gateway.proofs.start.clear.Statement.{statement}
-use Rattle.gateway.proofs.start.clear.Tie as tie
-use Rattle.gateway.proofs.start.clear.Reads as reads
-use Rattle.gateway.proofs.start.clear.Lts as lts
+use Rattle.call_start.proofs.clear.Statement.{statement}
+use Rattle.call_start.proofs.clear.Tie as tie
+use Rattle.call_start.proofs.clear.Reads as reads
+use Rattle.call_start.proofs.clear.Lts as lts
 
 abbrev Inv-loop : tie.InvT-loop
 Inv-loop t₀ i₀ t i = Zeros t i (length t₀)

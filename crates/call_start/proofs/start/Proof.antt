@@ -8,14 +8,14 @@ use Rattle.lent.specs.Gate.{Lendable}
 use Rattle.lent.proofs.GateLaws.{start-passes}
 use Rattle.lent.proofs.CallLaws.{start-refused, start-done}
 use borrow.Author.Needs.{needs}
-use Rattle.gateway.proofs.start.start.Statement.{statement}
-use Rattle.gateway.proofs.start.start.Tie as tie
-use Rattle.gateway.proofs.start.start.Reads as reads
-use Rattle.gateway.proofs.start.start.Lts as lts
+use Rattle.call_start.proofs.start.Statement.{statement}
+use Rattle.call_start.proofs.start.Tie as tie
+use Rattle.call_start.proofs.start.Reads as reads
+use Rattle.call_start.proofs.start.Lts as lts
 use Rattle.serve.proofs.answer.finish_empty.Reads as finish-empty-reads
 use Rattle.serve.proofs.answer.refused.Reads as refused-reads
 use Rattle.gate.proofs.start_refusal.Reads as start-refusal-reads
-use Rattle.gateway.proofs.start.clear.Reads as clear-reads
+use Rattle.call_start.proofs.clear.Reads as clear-reads
 
 start-refusal-requires : tie.Need-start-refusal-requires
 start-refusal-requires c κs = search needs
