@@ -9,7 +9,6 @@ ghost use Rattle.lent.specs.Served.{memory, CallServed, StartServed};
 ghost use Rattle.dokrawin.specs.Meters.{metersOf};
 use gateway::bytes;
 use gateway::closed;
-use gateway::connect;
 use gateway::controller;
 use gateway::datagrams;
 use gateway::meters;
@@ -41,7 +40,7 @@ pub extern "C" fn dokrawin_connect(
 ) -> Answer
     ensures { λ r. ⌜ CallServed (now (sheet .entry)) (connectTo farm) r (memory (now (table .entry)) (now (output .entry)) (now (assembling .entry))) (memory (now (table .exit)) (now (output .exit)) (now (assembling .entry))) ⌝ }
 {
-    connect::connect(sheet, table, output, assembling, FarmNo(farm))
+    call_connect::connect(sheet, table, output, assembling, FarmNo(farm))
 }
 
 #[no_mangle]

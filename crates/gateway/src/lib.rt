@@ -3,7 +3,6 @@
 // then nothing lent has changed.
 pub mod bytes; // bytes.rt: bytes from a row
 pub mod closed; // closed.rt: peer closed, link lost
-pub mod connect; // connect.rt: connect
 pub mod controller; // controller.rt: message from a controller
 pub mod datagrams; // datagrams.rt: datagram
 pub mod meters; // meters.rt: a farm's meters

@@ -56,7 +56,7 @@ fn make(
 {
     match call {
         Call::Start => call_start::start(s, t, out, m),
-        Call::Connect(f) => gateway::connect::connect(s, t, out, m, f),
+        Call::Connect(f) => call_connect::connect(s, t, out, m, f),
         Call::Bytes(row) => gateway::bytes::bytes(s, t, out, m, row, rest),
         Call::Closed(row) => gateway::closed::peer_closed(s, t, out, m, row),
         Call::Lost(f) => gateway::closed::link_lost(s, t, out, m, f),

@@ -17,10 +17,10 @@ use Rattle.lent.proofs.CallLaws.{refused-as, gate-served}
 use Rattle.serve.proofs.ServeLaws.{ready-of, farm-unknown}
 use Rattle.serve.proofs.CallsLaws.{connect-refused, connect-served}
 use borrow.Author.Needs.{needs}
-use Rattle.gateway.proofs.connect.connect.Statement.{statement}
-use Rattle.gateway.proofs.connect.connect.Tie as tie
-use Rattle.gateway.proofs.connect.connect.Reads as reads
-use Rattle.gateway.proofs.connect.connect.Lts as lts
+use Rattle.call_connect.proofs.connect.Statement.{statement}
+use Rattle.call_connect.proofs.connect.Tie as tie
+use Rattle.call_connect.proofs.connect.Reads as reads
+use Rattle.call_connect.proofs.connect.Lts as lts
 use Rattle.serve.proofs.answer.finish_empty.Reads as finish-empty-reads
 use Rattle.serve.proofs.answer.refused.Reads as refused-reads
 use Rattle.serve.proofs.connect.connect_at.Reads as connect-at-reads
