@@ -8,7 +8,6 @@ ghost use Rattle.lent.specs.Lent.{lentTable};
 ghost use Rattle.lent.specs.Served.{memory, CallServed, StartServed};
 ghost use Rattle.dokrawin.specs.Meters.{metersOf};
 use gateway::bytes;
-use gateway::closed;
 use gateway::controller;
 use gateway::datagrams;
 use gateway::meters;
@@ -67,7 +66,7 @@ pub extern "C" fn dokrawin_peer_closed(
 ) -> Answer
     ensures { λ r. ⌜ CallServed (now (sheet .entry)) (peerClosedOn row) r (memory (now (table .entry)) (now (output .entry)) (now (assembling .entry))) (memory (now (table .exit)) (now (output .exit)) (now (assembling .entry))) ⌝ }
 {
-    closed::peer_closed(sheet, table, output, assembling, RowNo(row))
+    call_closed::peer_closed(sheet, table, output, assembling, RowNo(row))
 }
 
 #[no_mangle]
@@ -80,7 +79,7 @@ pub extern "C" fn dokrawin_link_lost(
 ) -> Answer
     ensures { λ r. ⌜ CallServed (now (sheet .entry)) (linkLostOf farm) r (memory (now (table .entry)) (now (output .entry)) (now (assembling .entry))) (memory (now (table .exit)) (now (output .exit)) (now (assembling .entry))) ⌝ }
 {
-    closed::link_lost(sheet, table, output, assembling, FarmNo(farm))
+    call_closed::link_lost(sheet, table, output, assembling, FarmNo(farm))
 }
 
 #[no_mangle]

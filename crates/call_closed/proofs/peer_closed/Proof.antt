@@ -13,10 +13,10 @@ use Rattle.sheet.proofs.RowsLaws.{owner-seat, owned-few}
 use Rattle.serve.proofs.ServeLaws.{ready-of, row-unknown}
 use Rattle.serve.proofs.CallsLaws.{peer-not-open, peer-served}
 use borrow.Author.Needs.{needs}
-use Rattle.gateway.proofs.closed.peer_closed.Statement.{statement}
-use Rattle.gateway.proofs.closed.peer_closed.Tie as tie
-use Rattle.gateway.proofs.closed.peer_closed.Reads as reads
-use Rattle.gateway.proofs.closed.peer_closed.Lts as lts
+use Rattle.call_closed.proofs.peer_closed.Statement.{statement}
+use Rattle.call_closed.proofs.peer_closed.Tie as tie
+use Rattle.call_closed.proofs.peer_closed.Reads as reads
+use Rattle.call_closed.proofs.peer_closed.Lts as lts
 use Rattle.serve.proofs.answer.refused.Reads as refused-reads
 use Rattle.serve.proofs.at.is_open.Reads as is-open-reads
 use Rattle.serve.proofs.closed.close_row.Reads as close-row-reads

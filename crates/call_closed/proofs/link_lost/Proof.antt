@@ -11,10 +11,10 @@ use Rattle.model.specs.Move.{linkLost}
 use Rattle.serve.proofs.ServeLaws.{ready-of, farm-unknown}
 use Rattle.serve.proofs.CallsLaws.{link-served}
 use borrow.Author.Needs.{needs}
-use Rattle.gateway.proofs.closed.link_lost.Statement.{statement}
-use Rattle.gateway.proofs.closed.link_lost.Tie as tie
-use Rattle.gateway.proofs.closed.link_lost.Reads as reads
-use Rattle.gateway.proofs.closed.link_lost.Lts as lts
+use Rattle.call_closed.proofs.link_lost.Statement.{statement}
+use Rattle.call_closed.proofs.link_lost.Tie as tie
+use Rattle.call_closed.proofs.link_lost.Reads as reads
+use Rattle.call_closed.proofs.link_lost.Lts as lts
 use Rattle.serve.proofs.answer.refused.Reads as refused-reads
 use Rattle.serve.proofs.closed.close_farm.Reads as close-farm-reads
 use Rattle.gate.proofs.refusal.Reads as refusal-reads
