@@ -7,7 +7,6 @@ ghost use Rattle.model.specs.Table.{slot, connectTo, bytesFrom, peerClosedOn, l
 ghost use Rattle.lent.specs.Lent.{lentTable};
 ghost use Rattle.lent.specs.Served.{memory, CallServed, StartServed};
 ghost use Rattle.dokrawin.specs.Meters.{metersOf};
-use gateway::bytes;
 use gateway::controller;
 use gateway::datagrams;
 use gateway::meters;
@@ -53,7 +52,7 @@ pub extern "C" fn dokrawin_bytes(
 ) -> Answer
     ensures { λ r. ⌜ CallServed (now (sheet .entry)) (bytesFrom row (now (input .entry))) r (memory (now (table .entry)) (now (output .entry)) (now (assembling .entry))) (memory (now (table .exit)) (now (output .exit)) (now (assembling .exit))) ⌝ }
 {
-    bytes::bytes(sheet, table, output, assembling, RowNo(row), input)
+    call_bytes::bytes(sheet, table, output, assembling, RowNo(row), input)
 }
 
 #[no_mangle]

@@ -1,2 +1,1 @@
 pub mod MeterLaws
-pub mod BytesLaws

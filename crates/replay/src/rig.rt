@@ -57,7 +57,7 @@ fn make(
     match call {
         Call::Start => call_start::start(s, t, out, m),
         Call::Connect(f) => call_connect::connect(s, t, out, m, f),
-        Call::Bytes(row) => gateway::bytes::bytes(s, t, out, m, row, rest),
+        Call::Bytes(row) => call_bytes::bytes(s, t, out, m, row, rest),
         Call::Closed(row) => call_closed::peer_closed(s, t, out, m, row),
         Call::Lost(f) => call_closed::link_lost(s, t, out, m, f),
         Call::Tick => gateway::tick::tick(s, t, out, m),

@@ -19,10 +19,10 @@ use Rattle.lent.proofs.CallLaws.{refused-as, gate-served}
 use Rattle.serve.specs.Ready.{Ready}
 use Rattle.serve.proofs.MovedLaws.{ready-below}
 use Rattle.serve.proofs.ServeLaws.{ready-of, row-unknown}
-use Rattle.gateway.proofs.BytesLaws.{bytes-closed, bytes-waits, bytes-served}
+use Rattle.call_bytes.proofs.BytesLaws.{bytes-closed, bytes-waits, bytes-served}
 use borrow.Author.Needs.{needs}
-use Rattle.gateway.proofs.bytes.bytes.Statement.{statement}
-use Rattle.gateway.proofs.bytes.bytes.Tie as tie
+use Rattle.call_bytes.proofs.bytes.Statement.{statement}
+use Rattle.call_bytes.proofs.bytes.Tie as tie
 
 -- refusals 1 to 4 are past
 passed : (c : tie.Else1) → Passed (now (c .before .before .before .before .before .before .before .before .before .before .args .s)) (now (c .before .before .before .before .before .before .before .before .before .before .args .t)) (now (c .before .before .before .before .before .before .before .before .before .before .args .out)) (now (c .before .before .before .before .before .before .before .before .before .before .args .m))
