@@ -10,7 +10,6 @@ ghost use Rattle.dokrawin.specs.Meters.{metersOf};
 use gateway::controller;
 use gateway::datagrams;
 use gateway::meters;
-use gateway::tick;
 use kinds::FarmNo;
 use kinds::RowNo;
 use lent::Answer;
@@ -90,7 +89,7 @@ pub extern "C" fn dokrawin_tick(
 ) -> Answer
     ensures { λ r. ⌜ CallServed (now (sheet .entry)) tick r (memory (now (table .entry)) (now (output .entry)) (now (assembling .entry))) (memory (now (table .exit)) (now (output .exit)) (now (assembling .entry))) ⌝ }
 {
-    tick::tick(sheet, table, output, assembling)
+    call_tick::tick(sheet, table, output, assembling)
 }
 
 #[no_mangle]

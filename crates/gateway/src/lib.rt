@@ -4,4 +4,3 @@
 pub mod controller; // controller.rt: message from a controller
 pub mod datagrams; // datagrams.rt: datagram
 pub mod meters; // meters.rt: a farm's meters
-pub mod tick; // tick.rt: tick

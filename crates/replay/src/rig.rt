@@ -60,7 +60,7 @@ fn make(
         Call::Bytes(row) => call_bytes::bytes(s, t, out, m, row, rest),
         Call::Closed(row) => call_closed::peer_closed(s, t, out, m, row),
         Call::Lost(f) => call_closed::link_lost(s, t, out, m, f),
-        Call::Tick => gateway::tick::tick(s, t, out, m),
+        Call::Tick => call_tick::tick(s, t, out, m),
         Call::Datagram(f) => gateway::datagrams::datagram(s, t, out, m, f, rest),
         Call::Controller(f, from, to) => {
             gateway::controller::controller_message(s, t, out, m, f, from, to, rest)

@@ -8,10 +8,10 @@ use Rattle.lent.proofs.CallLaws.{gate-served}
 use Rattle.serve.proofs.ServeLaws.{all-ready}
 use Rattle.serve_tick.proofs.TickLaws.{tick-served}
 use borrow.Author.Needs.{needs}
-use Rattle.gateway.proofs.tick.tick.Statement.{statement}
-use Rattle.gateway.proofs.tick.tick.Tie as tie
-use Rattle.gateway.proofs.tick.tick.Reads as reads
-use Rattle.gateway.proofs.tick.tick.Lts as lts
+use Rattle.call_tick.proofs.tick.Statement.{statement}
+use Rattle.call_tick.proofs.tick.Tie as tie
+use Rattle.call_tick.proofs.tick.Reads as reads
+use Rattle.call_tick.proofs.tick.Lts as lts
 use Rattle.serve.proofs.answer.refused.Reads as refused-reads
 use Rattle.gate.proofs.refusal.Reads as refusal-reads
 use Rattle.serve_tick.proofs.tick_all.Reads as tick-all-reads
