@@ -8,7 +8,6 @@ ghost use Rattle.lent.specs.Lent.{lentTable};
 ghost use Rattle.lent.specs.Served.{memory, CallServed, StartServed};
 ghost use Rattle.dokrawin.specs.Meters.{metersOf};
 use gateway::controller;
-use gateway::datagrams;
 use gateway::meters;
 use kinds::FarmNo;
 use kinds::RowNo;
@@ -103,7 +102,7 @@ pub extern "C" fn dokrawin_datagram(
 ) -> Answer
     ensures { λ r. ⌜ CallServed (now (sheet .entry)) (datagramTo farm (now (input .entry))) r (memory (now (table .entry)) (now (output .entry)) (now (assembling .entry))) (memory (now (table .entry)) (now (output .exit)) (now (assembling .entry))) ⌝ }
 {
-    datagrams::datagram(sheet, table, output, assembling, FarmNo(farm), input)
+    call_datagram::datagram(sheet, table, output, assembling, FarmNo(farm), input)
 }
 
 #[no_mangle]

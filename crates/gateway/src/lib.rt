@@ -2,5 +2,4 @@
 // the assembling buffer, the input. No call asks anything of what it is lent: what it can't serve it refuses by document 01's number, and
 // then nothing lent has changed.
 pub mod controller; // controller.rt: message from a controller
-pub mod datagrams; // datagrams.rt: datagram
 pub mod meters; // meters.rt: a farm's meters

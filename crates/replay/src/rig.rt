@@ -61,7 +61,7 @@ fn make(
         Call::Closed(row) => call_closed::peer_closed(s, t, out, m, row),
         Call::Lost(f) => call_closed::link_lost(s, t, out, m, f),
         Call::Tick => call_tick::tick(s, t, out, m),
-        Call::Datagram(f) => gateway::datagrams::datagram(s, t, out, m, f, rest),
+        Call::Datagram(f) => call_datagram::datagram(s, t, out, m, f, rest),
         Call::Controller(f, from, to) => {
             gateway::controller::controller_message(s, t, out, m, f, from, to, rest)
         }

@@ -10,8 +10,8 @@ use Rattle.lent.proofs.CallLaws.{refused-as, gate-served}
 use Rattle.serve.proofs.ServeLaws.{ready-of, farm-unknown}
 use Rattle.serve.proofs.SaidLaws.{went-on, datagram-served}
 use borrow.Author.Needs.{needs}
-use Rattle.gateway.proofs.datagrams.datagram.Statement.{statement}
-use Rattle.gateway.proofs.datagrams.datagram.Tie as tie
+use Rattle.call_datagram.proofs.datagram.Statement.{statement}
+use Rattle.call_datagram.proofs.datagram.Tie as tie
 
 refusal-requires : tie.Need-refusal-requires
 refusal-requires c κs = search needs
