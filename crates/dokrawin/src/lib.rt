@@ -7,7 +7,6 @@ ghost use Rattle.model.specs.Table.{slot, connectTo, bytesFrom, peerClosedOn, l
 ghost use Rattle.lent.specs.Lent.{lentTable};
 ghost use Rattle.lent.specs.Served.{memory, CallServed, StartServed};
 ghost use Rattle.dokrawin.specs.Meters.{metersOf};
-use gateway::controller;
 use gateway::meters;
 use kinds::FarmNo;
 use kinds::RowNo;
@@ -118,7 +117,7 @@ pub extern "C" fn dokrawin_controller_message(
 ) -> Answer
     ensures { λ r. ⌜ CallServed (now (sheet .entry)) (messageFrom farm controller tester (now (user .entry))) r (memory (now (table .entry)) (now (output .entry)) (now (assembling .entry))) (memory (now (table .entry)) (now (output .exit)) (now (assembling .entry))) ⌝ }
 {
-    controller::controller_message(
+    call_controller::controller_message(
         sheet,
         table,
         output,

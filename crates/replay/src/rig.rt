@@ -63,7 +63,7 @@ fn make(
         Call::Tick => call_tick::tick(s, t, out, m),
         Call::Datagram(f) => call_datagram::datagram(s, t, out, m, f, rest),
         Call::Controller(f, from, to) => {
-            gateway::controller::controller_message(s, t, out, m, f, from, to, rest)
+            call_controller::controller_message(s, t, out, m, f, from, to, rest)
         }
     }
 }

@@ -10,8 +10,8 @@ use Rattle.lent.proofs.CallLaws.{refused-as, gate-served}
 use Rattle.serve.proofs.ServeLaws.{ready-of, farm-unknown}
 use Rattle.serve.proofs.SaidLaws.{went-on, message-served}
 use borrow.Author.Needs.{needs}
-use Rattle.gateway.proofs.controller.controller_message.Statement.{statement}
-use Rattle.gateway.proofs.controller.controller_message.Tie as tie
+use Rattle.call_controller.proofs.controller_message.Statement.{statement}
+use Rattle.call_controller.proofs.controller_message.Tie as tie
 
 refusal-requires : tie.Need-refusal-requires
 refusal-requires c κs = search needs
