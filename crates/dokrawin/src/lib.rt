@@ -7,7 +7,6 @@ ghost use Rattle.model.specs.Table.{slot, connectTo, bytesFrom, peerClosedOn, l
 ghost use Rattle.lent.specs.Lent.{lentTable};
 ghost use Rattle.lent.specs.Served.{memory, CallServed, StartServed};
 ghost use Rattle.dokrawin.specs.Meters.{metersOf};
-use gateway::meters;
 use kinds::FarmNo;
 use kinds::RowNo;
 use lent::Answer;
@@ -141,7 +140,7 @@ pub struct FarmMeters {
 pub extern "C" fn dokrawin_meters(table: &[u8; TABLE], farm: u8) -> FarmMeters
     ensures { λ r. ⌜ ((s m : List ℕ) → metersOf r ≡ slot (lentTable s (now (table .entry)) m) farm .farm .meters) ⌝ }
 {
-    let m = meters::meters(table, FarmNo(farm));
+    let m = call_meters::meters(table, FarmNo(farm));
     FarmMeters {
         taken: m.taken,
         finished: m.finished,

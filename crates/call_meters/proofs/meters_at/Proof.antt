@@ -6,10 +6,10 @@ use Prim.Native.Nat.{ℕ}
 use Rattle.table.specs.Block.{farmOf}
 use Rattle.serve.proofs.BlockLaws.{lent-is}
 use borrow.Author.Needs.{needs}
-use Rattle.gateway.proofs.meters.meters_at.Statement.{statement}
-use Rattle.gateway.proofs.meters.meters_at.Tie as tie
-use Rattle.gateway.proofs.meters.meters_at.Reads as reads
-use Rattle.gateway.proofs.meters.meters_at.Lts as lts
+use Rattle.call_meters.proofs.meters_at.Statement.{statement}
+use Rattle.call_meters.proofs.meters_at.Tie as tie
+use Rattle.call_meters.proofs.meters_at.Reads as reads
+use Rattle.call_meters.proofs.meters_at.Lts as lts
 use Rattle.table.proofs.meters.meters_at.Reads as meters-at-reads
 
 mul-a : tie.Need-mul-a

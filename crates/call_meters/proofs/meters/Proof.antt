@@ -2,13 +2,13 @@
 -- Assumes nothing.
 use mathlib.Core.Path.{_∙_}
 use native.Mathlib.Omega.{arith}
-use Rattle.gateway.proofs.MeterLaws.{slot-meters, no-meters}
+use Rattle.call_meters.proofs.MeterLaws.{slot-meters, no-meters}
 use borrow.Author.Needs.{needs}
-use Rattle.gateway.proofs.meters.meters.Statement.{statement}
-use Rattle.gateway.proofs.meters.meters.Tie as tie
-use Rattle.gateway.proofs.meters.meters.Reads as reads
-use Rattle.gateway.proofs.meters.meters.Lts as lts
-use Rattle.gateway.proofs.meters.meters_at.Reads as meters-at-reads
+use Rattle.call_meters.proofs.meters.Statement.{statement}
+use Rattle.call_meters.proofs.meters.Tie as tie
+use Rattle.call_meters.proofs.meters.Reads as reads
+use Rattle.call_meters.proofs.meters.Lts as lts
+use Rattle.call_meters.proofs.meters_at.Reads as meters-at-reads
 
 cast-i : tie.Need-cast-i
 cast-i c = search needs
