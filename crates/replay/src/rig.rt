@@ -55,15 +55,15 @@ fn make(
     ensures { λ r. ⌜ Served (now (s .entry)) (played call (now (rest .entry)) (now (s .entry)) (now (t .entry)) (now (out .entry)) (now (m .entry))) r (memory (now (t .entry)) (now (out .entry)) (now (m .entry))) (memory (now (t .exit)) (now (out .exit)) (now (m .exit))) ⌝ }
 {
     match call {
-        Call::Start => call_start::start(s, t, out, m),
-        Call::Connect(f) => call_connect::connect(s, t, out, m, f),
-        Call::Bytes(row) => call_bytes::bytes(s, t, out, m, row, rest),
-        Call::Closed(row) => call_closed::peer_closed(s, t, out, m, row),
-        Call::Lost(f) => call_closed::link_lost(s, t, out, m, f),
-        Call::Tick => call_tick::tick(s, t, out, m),
-        Call::Datagram(f) => call_datagram::datagram(s, t, out, m, f, rest),
+        Call::Start => gateway::start(s, t, out, m),
+        Call::Connect(f) => gateway::connect(s, t, out, m, f),
+        Call::Bytes(row) => gateway::bytes(s, t, out, m, row, rest),
+        Call::Closed(row) => gateway::peer_closed(s, t, out, m, row),
+        Call::Lost(f) => gateway::link_lost(s, t, out, m, f),
+        Call::Tick => gateway::tick(s, t, out, m),
+        Call::Datagram(f) => gateway::datagram(s, t, out, m, f, rest),
         Call::Controller(f, from, to) => {
-            call_controller::controller_message(s, t, out, m, f, from, to, rest)
+            gateway::controller_message(s, t, out, m, f, from, to, rest)
         }
     }
 }

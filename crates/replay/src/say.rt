@@ -66,7 +66,7 @@ pub fn say_farms(text: &mut [u8], used: usize, s: &[u8], t: &[u8; TABLE]) -> usi
     let mut at = used;
     let mut f: usize = 0;
     while f < n {
-        let m = call_meters::meters(t, FarmNo(f as u8));
+        let m = gateway::meters(t, FarmNo(f as u8));
         at = say_farm(text, at, f, m);
         f += 1;
     }
