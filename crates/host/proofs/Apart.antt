@@ -4,13 +4,12 @@
 use Prim.Native.Nat.{ℕ, _<_}
 use Prim.{Unit, tt}
 use mathlib.Core.Path.{_≡_, refl, sym, ap, _∙_, subst}
-use mathlib.Core.Bool.{Bool, true, false}
+use mathlib.Core.Bool.{true}
 use mathlib.Core.List.{List, []}
-use lib.Dec.{eqb, leb}
-use lib.ListN.{length, getD, take, set}
+use lib.Dec.{leb}
+use lib.ListN.{length, getD, take}
 use lib.Seq.{getD-set-other}
 use borrow.Author.Tests.{ne-eqb}
-use Rattle.octets.specs.Choice.{pick, unless}
 use Rattle.octets.specs.declared.Found.{Found}
 use Rattle.octets.specs.declared.Found.the-variants.{At, Nothing}
 use Rattle.octets.specs.Search.{firstAt}
@@ -19,15 +18,14 @@ use Rattle.kinds.specs.declared.RowState.the-variants.{Free, Fresh, Waiting, Ac
 use Rattle.sheet.specs.Sheet.{mostFarms}
 use Rattle.model.specs.FarmSheet.{FarmSheet, slotSheet}
 use Rattle.model.specs.Row.{rowAt, isFree, isOpen, activeAs}
-use Rattle.model.specs.Farm.{Farm}
 use Rattle.model.specs.Bytes.{takenBy}
-use Rattle.model.specs.Move.{Own, connect, bytes, peerClosed, linkLost, datagram, controller, Held, Given, Move, refused, gave, connectedAt, connects, tookBytes, bytesBy, datagramMove, mostUser, isTarget, toTester, controllerMove, move}
-use Rattle.model.specs.Table.{Table, slot, Call, Whose, farms, whose, Outcome, refuses, did, movedTo, called, tableOf}
-use Rattle.model.specs.History.{Made, stepOf}
+use Rattle.model.specs.Move.{Own, connect, bytes, peerClosed, linkLost, datagram, controller, Held, Move, refused, gave, connectedAt, connects, bytesBy, datagramMove, mostUser, isTarget, toTester, controllerMove, move}
+use Rattle.model.specs.Table.{Table, slot, Call, Whose, farms, whose, Outcome, movedTo, called, tableOf}
+use Rattle.model.specs.History.{Made}
 use Rattle.model.proofs.Cases.{pick-case, unless-case}
 use Rattle.model.proofs.DueTable.{step-case, other-alone}
 use Rattle.model.proofs.MeterSlot.{slot-set}
-use Rattle.table.specs.Block.{farmOf, image}
+use Rattle.table.specs.Block.{image}
 use Rattle.lent.specs.declared.Answer.{Answer}
 use Rattle.lent.specs.Lent.{block, wholeTable, heldAt, lentTable}
 use Rattle.lent.specs.Served.{Memory, CallServed}
@@ -36,35 +34,7 @@ use Rattle.lent.proofs.BytesLaws.{whole-exact}
 use Rattle.host.specs.Calls.{made}
 use Rattle.host.proofs.HistoryLaws.{call-means, call-whole}
 
--- ---- another farm
-
-module _ (s : List ℕ) (c : Call) {a : Answer} {before after : Memory} (x : CallServed s c a before after) (w : wholeTable (before .table) ≡ true)
-    (f : ℕ) (own : Own) (e : whose s c ≡ farms f own) where
-  abbrev was : Table
-  was = lentTable s (before .table) (before .assembling)
-
-  slot-stays : (g : ℕ) → g < mostFarms → (f ≡ g → ⊥)
-      → heldAt s (after .table) (after .assembling) g ≡ heldAt s (before .table) (before .assembling) g
-  slot-stays g h n =
-      sym (slot-is s (after .table) (after .assembling) g h)
-      ∙ ap (λ (t : Table). slot t g) (call-means c x w)
-      ∙ other-alone s (lentTable s (before .table) (before .assembling)) (made (before .output) (before .assembling) c) f g own e (ne-eqb f g n)
-      ∙ slot-is s (before .table) (before .assembling) g h
-
-  -- NO BYTE OF ANOTHER FARM'S BLOCK
-  pub blocks-apart : (g : ℕ) → g < mostFarms → (f ≡ g → ⊥) → block (after .table) g ≡ block (before .table) g
-  unfolding heldAt
-  blocks-apart g h n =
-      sym (whole-exact (after .table) .right (call-whole c x w) g h)
-      ∙ ap (λ (y : Held). image (y .farm)) (slot-stays g h n)
-      ∙ whole-exact (before .table) .right w g h
-
-  -- NO BYTE OF ANOTHER FARM'S ROOMS
-  pub rooms-apart : (g : ℕ) → g < mostFarms → (f ≡ g → ⊥)
-      → heldAt s (after .table) (after .assembling) g .rooms ≡ heldAt s (before .table) (before .assembling) g .rooms
-  rooms-apart g h n = ap (λ (y : Held). y .rooms) (slot-stays g h n)
-
--- ---- another row of the farm
+-- ---- a move leaves the rooms of all rows but the one that it takes bytes from
 
 -- the row that a bytes call names
 abbrev pub Names : Own → ℕ → Type 0
@@ -119,21 +89,47 @@ moved-stays : (own : FarmSheet) (t : Table) (f i : ℕ) (m : Move) → Stays own
 moved-stays own t f i (refused n) k = refl
 moved-stays own t f i (gave g) k = slot-set (λ (x : Held). getD (x .rooms) i [] ≡ getD (slot t f .rooms) i []) t f f (g .held) (λ _. k) refl
 
--- NO BYTE OF ANOTHER ROW'S ROOM
-pub room-apart : (s : List ℕ) (c : Call) {a : Answer} {before after : Memory} (x : CallServed s c a before after) (w : wholeTable (before .table) ≡ true)
-    (f : ℕ) (own : Own) → whose s c ≡ farms f own → f < mostFarms → (i : ℕ) → (Names own i → ⊥)
-    → getD (heldAt s (after .table) (after .assembling) f .rooms) i [] ≡ getD (heldAt s (before .table) (before .assembling) f .rooms) i []
-room-apart s c {before = before} {after = after} x w f own e h i n =
-    ap (λ (y : Held). getD (y .rooms) i []) (sym (slot-is s (after .table) (after .assembling) f h))
-    ∙ ap (λ (y : Table). getD (slot y f .rooms) i []) (call-means c x w)
-    ∙ by
-    ∙ ap (λ (y : Held). getD (y .rooms) i []) (slot-is s (before .table) (before .assembling) f h)
-  where
-    by : getD (slot (tableOf (lentTable s (before .table) (before .assembling)) (stepOf s (lentTable s (before .table) (before .assembling)) (made (before .output) (before .assembling) c))) f .rooms) i []
-        ≡ getD (slot (lentTable s (before .table) (before .assembling)) f .rooms) i []
-    by =
-        step-case (λ (o : Outcome). getD (slot (tableOf (lentTable s (before .table) (before .assembling)) o) f .rooms) i [] ≡ getD (slot (lentTable s (before .table) (before .assembling)) f .rooms) i [])
-        s (made (before .output) (before .assembling) c .lent) (lentTable s (before .table) (before .assembling)) c (λ _. refl)
-        (λ _ _. subst (λ (y : Whose). getD (slot (tableOf (lentTable s (before .table) (before .assembling)) (called s (lentTable s (before .table) (before .assembling)) y)) f .rooms) i [] ≡ getD (slot (lentTable s (before .table) (before .assembling)) f .rooms) i []) (sym e)
-        (moved-stays (slotSheet s f) (lentTable s (before .table) (before .assembling)) f i (move (slotSheet s f) (slot (lentTable s (before .table) (before .assembling)) f) own)
-        (move-stays (slotSheet s f) (slot (lentTable s (before .table) (before .assembling)) f) i own n)))
+-- ---- a call on lent memory
+
+module _ (s : List ℕ) (c : Call) {a : Answer} {before after : Memory} (x : CallServed s c a before after) (w : wholeTable (before .table) ≡ true)
+    (f : ℕ) (own : Own) (e : whose s c ≡ farms f own) where
+  abbrev was : Table
+  was = lentTable s (before .table) (before .assembling)
+
+  abbrev asked : Made
+  asked = made (before .output) (before .assembling) c
+
+  slot-stays : (g : ℕ) → g < mostFarms → (f ≡ g → ⊥)
+      → heldAt s (after .table) (after .assembling) g ≡ heldAt s (before .table) (before .assembling) g
+  slot-stays g h n =
+      sym (slot-is s (after .table) (after .assembling) g h)
+      ∙ ap (λ (t : Table). slot t g) (call-means c x w)
+      ∙ other-alone s was asked f g own e (ne-eqb f g n)
+      ∙ slot-is s (before .table) (before .assembling) g h
+
+  -- NO BYTE OF ANOTHER FARM'S BLOCK
+  pub blocks-apart : (g : ℕ) → g < mostFarms → (f ≡ g → ⊥) → block (after .table) g ≡ block (before .table) g
+  unfolding heldAt
+  blocks-apart g h n =
+      sym (whole-exact (after .table) .right (call-whole c x w) g h)
+      ∙ ap (λ (y : Held). image (y .farm)) (slot-stays g h n)
+      ∙ whole-exact (before .table) .right w g h
+
+  -- NO BYTE OF ANOTHER FARM'S ROOMS
+  pub rooms-apart : (g : ℕ) → g < mostFarms → (f ≡ g → ⊥)
+      → heldAt s (after .table) (after .assembling) g .rooms ≡ heldAt s (before .table) (before .assembling) g .rooms
+  rooms-apart g h n = ap (λ (y : Held). y .rooms) (slot-stays g h n)
+
+  -- NO BYTE OF ANOTHER ROW'S ROOM
+  pub room-apart : f < mostFarms → (i : ℕ) → (Names own i → ⊥)
+      → getD (heldAt s (after .table) (after .assembling) f .rooms) i [] ≡ getD (heldAt s (before .table) (before .assembling) f .rooms) i []
+  room-apart h i n =
+      ap (λ (y : Held). getD (y .rooms) i []) (sym (slot-is s (after .table) (after .assembling) f h))
+      ∙ ap roomOf (call-means c x w)
+      ∙ step-case (λ (o : Outcome). roomOf (tableOf was o) ≡ roomOf was) s (asked .lent) was c (λ _. refl)
+      (λ _ _. subst (λ (y : Whose). roomOf (tableOf was (called s was y)) ≡ roomOf was) (sym e)
+      (moved-stays (slotSheet s f) was f i (move (slotSheet s f) (slot was f) own) (move-stays (slotSheet s f) (slot was f) i own n)))
+      ∙ ap (λ (y : Held). getD (y .rooms) i []) (slot-is s (before .table) (before .assembling) f h)
+    where
+      roomOf : Table → List ℕ
+      roomOf t = getD (slot t f .rooms) i []

@@ -1,26 +1,35 @@
 -- A history of the core's calls is the model's history.
 -- Assumes nothing.
-use Prim.Native.Nat.{ℕ, zero, suc}
-use mathlib.Core.Path.{_≡_, refl, sym, ap, _∙_, subst}
+use Prim.Native.Nat.{ℕ, zero, suc, _+_, _<_}
+use mathlib.Core.Path.{_≡_, refl, ap, ap₂, _∙_, subst}
 use mathlib.Core.Bool.{Bool, true, false}
-use mathlib.Core.List.{List, [], _∷_, map}
+use mathlib.Core.List.{List}
 use native.Mathlib.Omega.{arith}
 use lib.Dec.{eqb, leb}
 use lib.ListN.{length}
-use Rattle.octets.specs.Choice.{unless}
+use Rattle.octets.specs.Choice.{both, either, one, unless}
+use Rattle.sheet.specs.Sheet.{mostFarms}
 use Rattle.sheet.specs.Test.{goodSheet}
 use Rattle.model.specs.Move.{Held}
-use Rattle.model.specs.Table.{Table, leastOutput, assemblingSize, Call, Lent, Did, Outcome, refuses, did, ifLent, goodTable, whose, called, step, startStep, renewed, numberOf, tableOf}
+use Rattle.model.specs.Table.{slot, Table, leastOutput, assemblingSize, Call, Outcome, refuses, did, ifLent, goodTable, whose, called, step, numberOf, tableOf}
 use Rattle.model.specs.History.{Made, fresh, stepOf, run}
+use Rattle.model.specs.Words.{isTick, isLoss, ticksIn, cutIn}
 use Rattle.model.proofs.RuleKept.{renewed-fresh}
 use Rattle.lent.specs.declared.Answer.{Answer}
-use Rattle.lent.specs.Lent.{wholeTable, lentTable, lentOf, lentStep, lentStart}
+use Rattle.table.specs.Block.{farmOf}
+use Rattle.lent.specs.Lent.{block, heldAt, wholeTable, lentTable, lentOf, lentStep, lentStart}
 use Rattle.lent.specs.Gate.{startNumber, Lendable}
-use Rattle.lent.specs.Served.{wholeAfter, Memory, memory, Served, CallServed}
+use Rattle.lent.specs.Served.{wholeAfter, Memory, Served, CallServed}
+use Rattle.lent.proofs.LentLaws.{slot-is}
 use Rattle.lent.proofs.GateLaws.{started, start-refuses, start-passes, starts}
-use Rattle.host.specs.Calls.{made, Calls, none, more, Began}
+use Rattle.host.specs.Calls.{made, Calls, none, more, Began, roomsIn, ticksOf, lostOf}
 
 -- ---- one call
+
+-- the farm that a block means is the slot of the model's table
+pub farm-in : (s u n : List ℕ) (f : ℕ) → f < mostFarms → slot (lentTable s u n) f .farm ≡ farmOf (block u f)
+unfolding heldAt
+farm-in s u n f h = ap (λ (x : Held). x .farm) (slot-is s u n f h)
 
 twice : (a b c : Bool) (o : Outcome)
     → unless a (refuses 1) (unless b (refuses 2) (unless c (refuses 3) (unless a (refuses 1) (unless b (refuses 2) (unless c (refuses 3) o)))))
@@ -70,12 +79,28 @@ calls-mean {s} w (more t m out c a after ms u n x rest) =
     let k = calls-mean (call-whole c x w) rest in
     (k .0 ∙ ap (λ (y : Table). run s y ms) (call-means c x w), k .1)
 
+-- the ticks and the losses that the answers tell are those of the rules
+pub ticks-are : {s t m : List ℕ} {ms : List Made} {u n : List ℕ} → wholeTable t ≡ true → (h : Calls s t m ms u n) → ticksOf h ≡ ticksIn s (lentTable s t m) ms
+unfolding ticksOf ticksIn
+ticks-are w (none t m) = refl
+ticks-are {s} w (more t m out c a after ms u n x rest) =
+    ap₂ (λ (k r : ℕ). one (both (isTick c) (eqb k 0)) + r) (call-is c x w .number)
+    (ticks-are (call-whole c x w) rest ∙ ap (λ (y : Table). ticksIn s y ms) (call-means c x w))
+
+pub losses-are : (row farm : ℕ) {s t m : List ℕ} {ms : List Made} {u n : List ℕ} → wholeTable t ≡ true → (h : Calls s t m ms u n)
+    → lostOf row farm h ≡ cutIn row farm s (lentTable s t m) ms
+unfolding lostOf cutIn
+losses-are row farm w (none t m) = refl
+losses-are row farm {s} w (more t m out c a after ms u n x rest) =
+    ap₂ (λ (k : ℕ) (r : Bool). either (both (isLoss row farm c) (eqb k 0)) r) (call-is c x w .number)
+    (losses-are row farm (call-whole c x w) rest ∙ ap (λ (y : Table). cutIn row farm s y ms) (call-means c x w))
+
 -- ---- from a start on
 
 module _ {s t m : List ℕ} (b : Began s t m) where
   -- the rooms that were lent to the start
   abbrev pub rooms : List (List (List ℕ))
-  rooms = map (λ (h : Held). h .rooms) (lentTable s (b .lent .table) (b .lent .assembling))
+  rooms = roomsIn s (b .lent .table) (b .lent .assembling)
 
   none-refused : (n : ℕ) → startNumber s (b .lent .output) (b .lent .assembling) ≡ suc n → ⊥
   none-refused n e =

@@ -1,4 +1,9 @@
+pub mod SheetOnce
+pub mod OutcomeLaws
 pub mod HistoryLaws
+pub mod RefusalLaws
 pub mod RoomLaws
+pub mod AnswerLaws
+pub mod GetsLaws
 pub mod Promises
 pub mod Apart

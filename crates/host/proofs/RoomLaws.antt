@@ -1,25 +1,21 @@
 -- The rooms that were lent to an accepted start: one of 2,048 bytes for each row of a farm.
 -- Assumes nothing.
-use Prim.Native.Nat.{ℕ, zero, suc, _+_, _*_, _≤_, _<_}
-use mathlib.Core.Path.{_≡_, refl, sym, ap, _∙_, subst}
-use mathlib.Core.List.{List, [], _∷_, map}
+use Prim.Native.Nat.{ℕ, _+_, _*_, _≤_, _<_}
+use mathlib.Core.Path.{_≡_, ap, _∙_}
+use mathlib.Core.List.{List, []}
 use native.Mathlib.Omega.{arith}
 use lib.ListN.{length, getD, length-map, List·getD-map, List·getD-eq-default}
-use Rattle.octets.specs.Parts.{part, parts}
 use Rattle.octets.proofs.PartsLaws.{parts-get, parts-length, length-part}
 use Rattle.sheet.specs.Sheet.{mostFarms, farmCount}
 use Rattle.sheet.specs.Rows.{firstRow, rowsOwned}
 use Rattle.sheet.specs.Rules.{GoodSheet}
 use Rattle.sheet.proofs.RowsLaws.{rows-within, rows-few}
-use Rattle.model.specs.FarmSheet.{FarmSheet, farmSheet, slotSheet}
+use Rattle.model.specs.FarmSheet.{FarmSheet, farmSheet}
 use Rattle.model.specs.Move.{Held}
-use Rattle.model.specs.Table.{slot, noHeld, assemblingSize}
+use Rattle.model.specs.Table.{noHeld, assemblingSize}
 use Rattle.lent.specs.Lent.{roomSize, roomsOf, heldAt, lentTable}
 use Rattle.lent.proofs.LentLaws.{lent-length, slot-is, slot-farm}
-
--- all rooms of a lent buffer, slot by slot
-abbrev pub roomsIn : List ℕ → List ℕ → List ℕ → List (List (List ℕ))
-roomsIn s t m = map (λ (h : Held). h .rooms) (lentTable s t m)
+use Rattle.host.specs.Calls.{roomsIn}
 
 module _ (s t m : List ℕ) (good : GoodSheet s) (wide : length m ≡ assemblingSize) where
   pub rooms-slots : length (roomsIn s t m) ≡ mostFarms

@@ -5,7 +5,7 @@ use mathlib.Core.Path.{_≡_, refl, sym, ap, _∙_}
 use mathlib.Core.List.{List}
 use native.Mathlib.Omega.{arith}
 use Rattle.kinds.specs.declared.Site.{Site}
-use Rattle.sheet.specs.Sheet.{mostRows, farmCount}
+use Rattle.sheet.specs.Sheet.{mostRows, farmCount, entityOf, quotaOf}
 use Rattle.sheet.specs.Rows.{firstRow, rowsOwned}
 use Rattle.model.specs.FarmSheet.{FarmSheet, farmSheet}
 use Rattle.model.proofs.SameSite.{SameSite}
@@ -14,6 +14,12 @@ use Rattle.table.specs.Layout.{seats}
 use Rattle.decide.specs.SiteSheet.{siteSheet}
 use Rattle.rowwork.specs.Did.{RowsFit}
 use Rattle.site.specs.Site.{siteOf, Sited}
+
+-- the three numbers, each read by itself
+pub sited-is : (s : List ℕ) (f first quota entity : ℕ) → first ≡ firstRow s f → quota ≡ quotaOf s f → entity ≡ entityOf s f
+    → record { first = first; quota = quota; entity = entity } ≡ siteOf s f
+unfolding siteOf
+sited-is s f first quota entity x y z = λ i. record { first = x i; quota = y i; entity = z i }
 
 pub sited-same : (s : List ℕ) (f : ℕ) (site : Site) → Sited s f site → SameSite (siteSheet site) (farmSheet s f)
 unfolding siteSheet farmSheet siteOf

@@ -4,7 +4,7 @@ use native.Mathlib.Omega.{arith}
 use denote.Ref.{now}
 use Rattle.sheet.proofs.LengthLaws.{good-lengths}
 use Rattle.sheet.proofs.RowsLaws.{first-few}
-use Rattle.site.specs.Site.{siteOf}
+use Rattle.site.proofs.SiteLaws.{sited-is}
 use Rattle.site.proofs.site_of.Statement.{statement}
 use Rattle.site.proofs.site_of.Tie as tie
 
@@ -30,13 +30,12 @@ entity-requires c κs =
     good-lengths (now (s .args .s)) (s .pre .0) .farm (s .args .f .0) (s .pre .1)
 
 returns : tie.Need-returns
-unfolding siteOf
 returns c =
     let s = c .before .before .before .before in
     record {
       good = s .pre .0;
       has = s .pre .1;
-      is = rw (c .before .before .first-row .ensures, c .before .quota .ensures, c .entity .ensures);
+      is = sited-is _ _ _ _ _ (c .before .before .first-row .ensures) (c .before .quota .ensures) (c .entity .ensures);
     }
 
 pub site-of-spec : {M : Type 1} → statement M
