@@ -1,21 +1,15 @@
--- What the walks of sheet_ok show step by step, and the rule of a section that it makes. A section's walk sees only neighbours: that each address is above
--- the one before it, the first above 0, says both that none is 0 and that they ascend.
+-- What the walk of a section shows step by step, and the rule of the section that it makes. The walk sees only neighbours: that each address is above the
+-- one before it, the first above 0, says both that none is 0 and that they ascend.
 -- Assumes nothing.
 use mathlib.Core.Path.{_≡_, sym, subst}
-use mathlib.Core.Bool.{Bool}
 use mathlib.Core.List.{List}
 use mathlib.Core.Logic.{⊎-elim}
 use Prim.Native.Nat.{ℕ, zero, suc, _≤_, _<_}
 use native.Mathlib.Nat.{lt-trans, eq-or-lt-of-le, not-suc-le-zero}
 use native.Mathlib.Omega.{arith}
-use Rattle.octets.specs.Says.{Says}
 use Rattle.sheet.specs.Sheet.{addressAt, farmOfAt, flagAt}
 use Rattle.sheet.specs.Rules.{GoodSection}
-
--- the address before the i-th, 0 before the first
-abbrev pub addressBefore : List ℕ → ℕ → ℕ → ℕ
-addressBefore s at zero = 0
-addressBefore s at (suc i) = addressAt s at i
+use Rattle.sheet.specs.Test.{addressBefore}
 
 pub record Passed (s : List ℕ) (at farms most i : ℕ) : Type 0 where
   pub above : addressBefore s at i < addressAt s at i
@@ -54,10 +48,3 @@ module _ (s : List ℕ) (at farms most : ℕ) where
         farm = g .eachKnown (suc i) h .farmExists;
         flag = g .eachKnown (suc i) h .flagAtMost;
       }
-
--- the answer for the place and the counts that were read is the answer for the sheet's own
-pub says-section : (s : List ℕ) (b : Bool) {at at′ n n′ farms farms′ : ℕ} (most : ℕ) → at ≡ at′ → n ≡ n′ → farms ≡ farms′
-    → Says b (GoodSection s at n farms most) → Says b (GoodSection s at′ n′ farms′ most)
-says-section s b {at} {at′} {n} {n′} {farms} {farms′} most ea en ef h =
-    subst (λ (k : ℕ). Says b (GoodSection s at′ n′ k most)) ef
-    (subst (λ (k : ℕ). Says b (GoodSection s at′ k farms most)) en (subst (λ (k : ℕ). Says b (GoodSection s k n farms most)) ea h))

@@ -6,8 +6,8 @@ pub mod head;
 pub mod rows;
 
 // Where things stand, as specs/Sheet.antt has it.
-const HEAD_SIZE: usize = 12;
+pub const HEAD_SIZE: usize = 12;
 
-const FARM_SIZE: usize = 33;
+pub const FARM_SIZE: usize = 33;
 
-const KNOWN_SIZE: usize = 4;
+pub const KNOWN_SIZE: usize = 4;
