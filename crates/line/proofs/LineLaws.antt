@@ -20,7 +20,7 @@ use Rattle.model.proofs.Cases.{pick-case}
 use Rattle.model.proofs.Seats.{closed-line, closings-keep}
 use Rattle.model.proofs.Settling.{advanced-farm}
 use Rattle.rowwork.specs.Did.{Seated}
-use Rattle.rowwork.specs.Steps.{acted}
+use Rattle.rowwork.specs.Acted.{acted}
 use Rattle.line.specs.Verdict.{isPending}
 
 -- ---- seats

@@ -1,3 +1,4 @@
 pub mod Did
-pub mod Steps
+pub mod Acted
+pub mod Closes
 pub mod Refused

@@ -7,7 +7,7 @@ ghost use Rattle.table.specs.Layout.{seats};
 ghost use Rattle.table.specs.Block.{farmOf, Whole};
 ghost use Rattle.decide.specs.SiteSheet.{siteSheet};
 ghost use Rattle.rowwork.specs.Did.{RowsFit, Did};
-ghost use Rattle.rowwork.specs.Steps.{acted};
+ghost use Rattle.rowwork.specs.Acted.{acted};
 use crate::close;
 use crate::say;
 use decide::ACCEPTED;

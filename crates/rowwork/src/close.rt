@@ -11,7 +11,7 @@ ghost use Rattle.table.specs.Layout.{seats, blockSize};
 ghost use Rattle.table.specs.Block.{farmOf, Whole};
 ghost use Rattle.decide.specs.SiteSheet.{siteSheet};
 ghost use Rattle.rowwork.specs.Did.{RowsFit, Did};
-ghost use Rattle.rowwork.specs.Steps.{closesBy};
+ghost use Rattle.rowwork.specs.Closes.{closesBy};
 use crate::say;
 use kinds::Check;
 use kinds::Clock;

@@ -1,6 +1,6 @@
 -- `answer::act` meets its contract.
 -- Assumes nothing.
-use Rattle.rowwork.specs.Steps.{acted}
+use Rattle.rowwork.specs.Acted.{acted}
 use Rattle.rowwork.proofs.DidLaws.{did-nothing}
 use borrow.Author.Needs.{needs}
 use Rattle.rowwork.proofs.answer.act.Statement.{statement}

@@ -3,7 +3,7 @@
 use mathlib.Core.Path.{sym, _∙_}
 use Rattle.table.specs.Block.{farmOf}
 use Rattle.decide.specs.SiteSheet.{siteSheet}
-use Rattle.rowwork.specs.Steps.{closesBy}
+use Rattle.rowwork.specs.Closes.{closesBy}
 use Rattle.rowwork.proofs.DidLaws.{did-same, did-nothing}
 use Rattle.rowwork.proofs.StepLaws.{closes-yes, closes-no}
 use borrow.Author.Needs.{needs}

@@ -8,7 +8,7 @@ use Rattle.model.proofs.Seats.{seatsTo}
 use Rattle.table.specs.Block.{farmOf}
 use Rattle.decide.specs.SiteSheet.{siteSheet}
 use Rattle.rowwork.specs.Did.{Did}
-use Rattle.rowwork.specs.Steps.{closesBy}
+use Rattle.rowwork.specs.Closes.{closesBy}
 use Rattle.rowwork.proofs.DidLaws.{did-start, did-seat, did-all}
 use borrow.Author.Needs.{needs}
 use Rattle.rowwork.proofs.close.close_where.Statement.{statement}
