@@ -18,7 +18,7 @@ use Rattle.model.specs.Farm.{Farm, does, andThen, says, closed}
 use Rattle.model.specs.Bytes.{toTarget, diagnosed}
 use Rattle.model.proofs.SameSite.{SameSite}
 use Rattle.plan.specs.Plan.{pushedTo}
-use Rattle.rowwork.specs.Did.{pushedAll}
+use Rattle.closing.specs.Did.{pushedAll}
 use Rattle.rowwork.specs.Refused.{refusedBy}
 use Rattle.diagnostic.specs.Codes.{targetCode, repliesBy}
 

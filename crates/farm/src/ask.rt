@@ -6,7 +6,7 @@ ghost use Rattle.model.specs.Move.{openRows};
 ghost use Rattle.table.specs.Layout.{blockSize};
 ghost use Rattle.table.specs.Block.{farmOf};
 use kinds::RowState;
-use rowwork::close;
+use closing::close;
 use table::SEATS;
 
 fn state_free(s: RowState) -> bool

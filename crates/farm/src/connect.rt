@@ -12,7 +12,7 @@ use crate::ask;
 use kinds::Clock;
 use kinds::RowState;
 use octets::Found;
-use rowwork::say;
+use closing::say;
 
 // The lowest free row of the farm's own, of which there are so many.
 fn free_row(b: &[u8], rows: usize) -> Found

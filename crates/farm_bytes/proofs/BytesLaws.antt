@@ -36,8 +36,8 @@ use Rattle.model.proofs.Settling.{started-farm}
 use Rattle.table.specs.Layout.{seats}
 use Rattle.table.specs.Block.{farmOf, Holds}
 use Rattle.decide.specs.SiteSheet.{siteSheet}
-use Rattle.rowwork.specs.Did.{Seated, Did}
-use Rattle.rowwork.proofs.DidLaws.{did-same, did-then, did-after}
+use Rattle.closing.specs.Did.{Seated, Did}
+use Rattle.closing.proofs.DidLaws.{did-same, did-then, did-after}
 use Rattle.messages.specs.Length.{EndsWell}
 use Rattle.farm_bytes.specs.Bytes.{idleAfter, storedLong, payloadLong}
 

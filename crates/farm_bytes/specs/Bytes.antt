@@ -13,7 +13,7 @@ use Rattle.model.specs.FarmSheet.{FarmSheet}
 use Rattle.model.specs.Stream.{isStored, Event, inputEnded, wrong, finished, skipped, Taken}
 use Rattle.model.specs.Farm.{Farm}
 use Rattle.model.specs.Bytes.{payloadBy, bytesDone}
-use Rattle.rowwork.specs.Did.{Did}
+use Rattle.closing.specs.Did.{Did}
 use Rattle.farm_bytes.specs.declared.Heard.{Heard}
 
 -- "An active row's idle count goes to 0 with each call that takes a byte from it"

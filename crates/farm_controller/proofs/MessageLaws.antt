@@ -21,8 +21,8 @@ use Rattle.model.specs.Move.{Held, Move, refused, mostUser, isTarget, toTester,
 use Rattle.model.specs.Table.{itemsBy}
 use Rattle.plan.specs.Plan.{itemsOf, PlanOk, Said, pushedTo}
 use Rattle.decide.specs.SiteSheet.{siteSheet}
-use Rattle.rowwork.specs.Did.{pushedAll}
-use Rattle.rowwork.proofs.DidLaws.{pushed-none, pushed-one}
+use Rattle.closing.specs.Did.{pushedAll}
+use Rattle.closing.proofs.DidLaws.{pushed-none, pushed-one}
 use Rattle.site.specs.Site.{Sited}
 use Rattle.site.proofs.SiteLaws.{sited-same}
 use Rattle.farm_controller.specs.Message.{sizeFits, numberBy, messageMove, Messaged}

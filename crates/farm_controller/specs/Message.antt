@@ -11,7 +11,7 @@ use Rattle.model.specs.Farm.{Farm}
 use Rattle.model.specs.Move.{Move, refused, gave, mostUser, controllerMove}
 use Rattle.model.specs.Table.{itemsBy}
 use Rattle.plan.specs.Plan.{itemsOf, PlanOk}
-use Rattle.rowwork.specs.Did.{pushedAll}
+use Rattle.closing.specs.Did.{pushedAll}
 
 -- "0 or over 2,044 bytes of user data" is refused
 abbrev pub sizeFits : ℕ → Bool

@@ -13,7 +13,7 @@ use kinds::FarmNo;
 use kinds::Reply;
 use kinds::Site;
 use octets::Found;
-use rowwork::say;
+use closing::say;
 use sheet::find;
 
 // "9 | controller message with 0 or over 2,044 bytes of user data"

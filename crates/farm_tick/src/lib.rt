@@ -7,11 +7,11 @@ ghost use Rattle.plan.specs.Plan.{PlanOk};
 ghost use Rattle.table.specs.Layout.{seats};
 ghost use Rattle.table.specs.Block.{farmOf, Whole, Holds};
 ghost use Rattle.decide.specs.SiteSheet.{siteSheet};
-ghost use Rattle.rowwork.specs.Did.{RowsFit, Seated, Did};
+ghost use Rattle.closing.specs.Did.{RowsFit, Seated, Did};
 use kinds::RowState;
 use kinds::Site;
 use line::settle;
-use rowwork::close;
+use closing::close;
 use table::SEATS;
 
 // "a running check clock": somebody waits.

@@ -19,7 +19,7 @@ use Rattle.model.specs.Line.{accepted, isSilent, answered, started, advanced, s
 use Rattle.model.proofs.Cases.{pick-case}
 use Rattle.model.proofs.Seats.{closed-line, closings-keep}
 use Rattle.model.proofs.Settling.{advanced-farm}
-use Rattle.rowwork.specs.Did.{Seated}
+use Rattle.closing.specs.Did.{Seated}
 use Rattle.rowwork.specs.Acted.{acted}
 use Rattle.line.specs.Verdict.{isPending}
 

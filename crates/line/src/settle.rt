@@ -7,7 +7,7 @@ ghost use Rattle.model.specs.Line.{advanced, settleLine, settle};
 ghost use Rattle.plan.specs.Plan.{PlanOk};
 ghost use Rattle.table.specs.Block.{farmOf, Whole};
 ghost use Rattle.decide.specs.SiteSheet.{siteSheet};
-ghost use Rattle.rowwork.specs.Did.{RowsFit, Seated, Did};
+ghost use Rattle.closing.specs.Did.{RowsFit, Seated, Did};
 ghost use Rattle.line.specs.Verdict.{isPending};
 use kinds::HeadVerdict;
 use kinds::Site;

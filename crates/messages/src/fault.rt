@@ -5,7 +5,7 @@ ghost use Rattle.plan.specs.Plan.{PlanOk};
 ghost use Rattle.table.specs.Layout.{seats};
 ghost use Rattle.table.specs.Block.{farmOf, Whole};
 ghost use Rattle.decide.specs.SiteSheet.{siteSheet};
-ghost use Rattle.rowwork.specs.Did.{RowsFit, Did};
+ghost use Rattle.closing.specs.Did.{RowsFit, Did};
 use kinds::Fault;
 use kinds::Reply;
 use kinds::Site;

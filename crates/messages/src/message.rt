@@ -8,7 +8,7 @@ ghost use Rattle.model.specs.Bytes.{messaged, eventDone};
 ghost use Rattle.plan.specs.Plan.{PlanOk};
 ghost use Rattle.table.specs.Layout.{seats};
 ghost use Rattle.table.specs.Block.{farmOf, Whole};
-ghost use Rattle.rowwork.specs.Did.{Did};
+ghost use Rattle.closing.specs.Did.{Did};
 ghost use Rattle.site.specs.Site.{Sited};
 ghost use Rattle.stream.specs.Took.{eventOf};
 ghost use Rattle.messages.specs.Length.{RightLength, EndsWell};

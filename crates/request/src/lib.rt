@@ -10,7 +10,7 @@ ghost use Rattle.plan.specs.Plan.{PlanOk};
 ghost use Rattle.table.specs.Layout.{seats, blockSize};
 ghost use Rattle.table.specs.Block.{farmOf, Whole};
 ghost use Rattle.decide.specs.SiteSheet.{siteSheet};
-ghost use Rattle.rowwork.specs.Did.{RowsFit, Did};
+ghost use Rattle.closing.specs.Did.{RowsFit, Did};
 ghost use Rattle.site.specs.Site.{Sited};
 ghost use Rattle.request.specs.Again.{againCode};
 use kinds::Decision;

@@ -1,3 +1,1 @@
-pub mod DidLaws
-pub mod StepLaws
 pub mod RefusedLaws

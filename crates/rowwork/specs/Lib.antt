@@ -1,4 +1,2 @@
-pub mod Did
 pub mod Acted
-pub mod Closes
 pub mod Refused

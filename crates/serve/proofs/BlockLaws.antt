@@ -10,7 +10,7 @@ use Rattle.sheet.specs.Sheet.{mostFarms}
 use Rattle.model.specs.Farm.{Farm, Done}
 use Rattle.table.specs.Layout.{blockSize, tableSize}
 use Rattle.table.specs.Block.{farmOf}
-use Rattle.rowwork.specs.Did.{Did}
+use Rattle.closing.specs.Did.{Did}
 use Rattle.farm.specs.Connected.{Connected}
 use Rattle.lent.specs.Lent.{block}
 use Rattle.lent.proofs.MoveLaws.{lent-back}

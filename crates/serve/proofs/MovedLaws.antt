@@ -19,8 +19,8 @@ use Rattle.model.specs.Move.{peerGone, linkGone, noRow}
 use Rattle.model.proofs.RuleParts.{FarmOk}
 use Rattle.model.proofs.RuleKept.{farm-ok}
 use Rattle.table.specs.Block.{farmOf}
-use Rattle.rowwork.specs.Did.{pushedAll, Did}
-use Rattle.rowwork.proofs.DidLaws.{pushed-first, did-same}
+use Rattle.closing.specs.Did.{pushedAll, Did}
+use Rattle.closing.proofs.DidLaws.{pushed-first, did-same}
 use Rattle.room.proofs.Moves.{Small, peer-room, link-room}
 use Rattle.room.proofs.Long.{peer-short, link-short}
 use Rattle.lent.specs.declared.Answer.{Answer}

@@ -30,8 +30,8 @@ use Rattle.model.proofs.Cases.{unless-case}
 use Rattle.model.proofs.RuleKept.{farm-ok}
 use Rattle.table.specs.Layout.{tableSize}
 use Rattle.table.specs.Block.{farmOf}
-use Rattle.rowwork.specs.Did.{pushedAll}
-use Rattle.rowwork.proofs.DidLaws.{pushed-first}
+use Rattle.closing.specs.Did.{pushedAll}
+use Rattle.closing.proofs.DidLaws.{pushed-first}
 use Rattle.room.proofs.Open.{open-within}
 use Rattle.room.proofs.Moves.{Small}
 use Rattle.room.proofs.Long.{answers-few, longs-few}

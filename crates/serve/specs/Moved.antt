@@ -11,7 +11,7 @@ use Rattle.outsheet.specs.Contracts.{Wrote}
 use Rattle.model.specs.Farm.{Farm, Done}
 use Rattle.model.specs.Move.{noRow, Move, refused, gave}
 use Rattle.table.specs.Block.{farmOf, Holds}
-use Rattle.rowwork.specs.Did.{Did}
+use Rattle.closing.specs.Did.{Did}
 use Rattle.farm_controller.specs.Message.{messageMove}
 use Rattle.farm.specs.Connected.{Connected}
 use Rattle.lent.specs.declared.Answer.{Answer}

@@ -16,7 +16,7 @@ use kinds::Item;
 use kinds::RowNo;
 use lent::Answer;
 use plan::PLAN;
-use rowwork::say::VERSION;
+use closing::say::VERSION;
 use serve::answer;
 use serve::at;
 use sheet::farms;

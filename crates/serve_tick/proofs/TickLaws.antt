@@ -28,8 +28,8 @@ use Rattle.model.proofs.SameSite.{ticked-same}
 use Rattle.table.specs.Block.{farmOf, image, Whole, Holds}
 use Rattle.table.proofs.BlockLaws.{exact}
 use Rattle.decide.specs.SiteSheet.{siteSheet}
-use Rattle.rowwork.specs.Did.{pushedAll}
-use Rattle.rowwork.proofs.DidLaws.{pushed-none, pushed-append, pushed-first}
+use Rattle.closing.specs.Did.{pushedAll}
+use Rattle.closing.proofs.DidLaws.{pushed-none, pushed-append, pushed-first}
 use Rattle.site.specs.Site.{Sited}
 use Rattle.site.proofs.SiteLaws.{sited-same}
 use Rattle.room.proofs.Moves.{Small}

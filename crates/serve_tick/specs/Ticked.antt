@@ -16,7 +16,7 @@ use Rattle.model.specs.Farm.{Done}
 use Rattle.model.specs.Move.{noRow, ticked}
 use Rattle.table.specs.Layout.{tableSize}
 use Rattle.table.specs.Block.{farmOf, Holds}
-use Rattle.rowwork.specs.Did.{pushedAll}
+use Rattle.closing.specs.Did.{pushedAll}
 use Rattle.lent.specs.declared.Answer.{Answer}
 use Rattle.lent.specs.Lent.{block}
 use Rattle.lent.specs.Served.{done}

@@ -11,7 +11,7 @@ ghost use Rattle.outsheet.specs.Contracts.{leastOutput};
 ghost use Rattle.table.specs.Layout.{tableSize};
 ghost use Rattle.table.specs.Block.{farmOf, Whole};
 ghost use Rattle.decide.specs.SiteSheet.{siteSheet};
-ghost use Rattle.rowwork.specs.Did.{RowsFit, Seated};
+ghost use Rattle.closing.specs.Did.{RowsFit, Seated};
 ghost use Rattle.lent.specs.Lent.{block};
 ghost use Rattle.serve.specs.Ready.{AllReady};
 ghost use Rattle.serve.specs.Moved.{DidAt};

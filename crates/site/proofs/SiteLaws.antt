@@ -12,7 +12,7 @@ use Rattle.model.proofs.SameSite.{SameSite}
 use Rattle.sheet.proofs.RowsLaws.{first-few, owned-few, rows-within, rows-few}
 use Rattle.table.specs.Layout.{seats}
 use Rattle.decide.specs.SiteSheet.{siteSheet}
-use Rattle.rowwork.specs.Did.{RowsFit}
+use Rattle.closing.specs.Did.{RowsFit}
 use Rattle.site.specs.Site.{siteOf, Sited}
 
 -- the three numbers, each read by itself

@@ -5,7 +5,7 @@ use Rattle.model.specs.FarmSheet.{FarmSheet, farmSheet}
 use Rattle.model.specs.Farm.{Farm}
 use Rattle.table.specs.Block.{farmOf}
 use Rattle.decide.specs.SiteSheet.{siteSheet}
-use Rattle.rowwork.proofs.DidLaws.{did-same}
+use Rattle.closing.proofs.DidLaws.{did-same}
 use Rattle.site.proofs.SiteLaws.{sited-same, sited-fit}
 use Rattle.diagnostic.proofs.DiagnosticLaws.{diagnosed-own, diagnosed-stranger}
 use borrow.Author.Needs.{needs}

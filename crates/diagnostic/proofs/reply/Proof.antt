@@ -8,8 +8,8 @@ use Rattle.model.specs.FarmSheet.{FarmSheet}
 use Rattle.model.specs.Farm.{says}
 use Rattle.plan.specs.Plan.{itemsOf, pushedTo}
 use Rattle.decide.specs.SiteSheet.{siteSheet}
-use Rattle.rowwork.specs.Did.{pushedAll}
-use Rattle.rowwork.proofs.DidLaws.{pushed-one}
+use Rattle.closing.specs.Did.{pushedAll}
+use Rattle.closing.proofs.DidLaws.{pushed-one}
 use Rattle.diagnostic.proofs.DiagnosticLaws.{said-twice, replies-on, replies-refused}
 use borrow.Author.Needs.{needs}
 use Rattle.diagnostic.proofs.reply.Statement.{statement}

@@ -15,8 +15,8 @@ use Rattle.model.specs.Rule.{PossibleAt}
 use Rattle.model.proofs.LineRoom.{line-room}
 use Rattle.table.specs.Layout.{seats}
 use Rattle.table.specs.Block.{farmOf}
-use Rattle.rowwork.specs.Did.{Seated}
-use Rattle.rowwork.proofs.DidLaws.{did-same}
+use Rattle.closing.specs.Did.{Seated}
+use Rattle.closing.proofs.DidLaws.{did-same}
 use Rattle.site.proofs.SiteLaws.{sited-same, sited-fit}
 use Rattle.stream.specs.Took.{eventOf, takenOf}
 use Rattle.stream.proofs.RunLaws.{takes-one}

@@ -10,8 +10,8 @@ use Rattle.model.specs.Line.{settle}
 use Rattle.model.specs.Move.{clockRun, aged, ticked}
 use Rattle.table.specs.Block.{farmOf}
 use Rattle.decide.specs.SiteSheet.{siteSheet}
-use Rattle.rowwork.specs.Did.{Seated}
-use Rattle.rowwork.proofs.DidLaws.{did-same, did-then}
+use Rattle.closing.specs.Did.{Seated}
+use Rattle.closing.proofs.DidLaws.{did-same, did-then}
 use Rattle.farm.proofs.SeatedLaws.{closings-line, clock-line}
 use borrow.Author.Needs.{needs}
 use Rattle.farm_tick.proofs.tick.Statement.{statement}

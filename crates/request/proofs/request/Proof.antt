@@ -7,7 +7,7 @@ use Rattle.model.specs.Farm.{Farm}
 use Rattle.model.specs.Bytes.{decidedBy, requested}
 use Rattle.table.specs.Block.{farmOf}
 use Rattle.decide.specs.SiteSheet.{siteSheet}
-use Rattle.rowwork.proofs.DidLaws.{did-same}
+use Rattle.closing.proofs.DidLaws.{did-same}
 use Rattle.site.proofs.SiteLaws.{sited-same, sited-fit}
 use Rattle.request.proofs.RequestLaws.{decided-same}
 use borrow.Author.Needs.{needs}

@@ -7,7 +7,7 @@ use Rattle.model.specs.Move.{ticked}
 use Rattle.plan.specs.Plan.{PlanOk}
 use Rattle.table.specs.Block.{farmOf, Whole}
 use Rattle.decide.specs.SiteSheet.{siteSheet}
-use Rattle.rowwork.specs.Did.{RowsFit, Seated}
+use Rattle.closing.specs.Did.{RowsFit, Seated}
 use Rattle.serve.proofs.BlockLaws.{lent-is, did-lent}
 use borrow.Author.Needs.{needs}
 use Rattle.serve_tick.proofs.tick_at.Statement.{statement}

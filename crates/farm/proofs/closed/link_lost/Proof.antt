@@ -6,7 +6,7 @@ use Rattle.model.specs.Farm.{Farm, quietly, withLine}
 use Rattle.model.specs.Line.{cleared}
 use Rattle.model.specs.Move.{linkGone}
 use Rattle.table.specs.Block.{farmOf, Holds}
-use Rattle.rowwork.proofs.DidLaws.{did-then, did-quietly}
+use Rattle.closing.proofs.DidLaws.{did-then, did-quietly}
 use borrow.Author.Needs.{needs}
 use Rattle.farm.proofs.closed.link_lost.Statement.{statement}
 use Rattle.farm.proofs.closed.link_lost.Tie as tie

@@ -8,8 +8,8 @@ use Rattle.model.specs.Move.{peerGone}
 use Rattle.model.proofs.Seats.{closed-line}
 use Rattle.table.specs.Block.{farmOf}
 use Rattle.decide.specs.SiteSheet.{siteSheet}
-use Rattle.rowwork.specs.Did.{Seated}
-use Rattle.rowwork.proofs.DidLaws.{did-then}
+use Rattle.closing.specs.Did.{Seated}
+use Rattle.closing.proofs.DidLaws.{did-then}
 use Rattle.farm.proofs.SeatedLaws.{left-seated}
 use borrow.Author.Needs.{needs}
 use Rattle.farm.proofs.closed.peer_closed.Statement.{statement}

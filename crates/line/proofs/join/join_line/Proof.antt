@@ -10,7 +10,7 @@ use Rattle.model.specs.Farm.{Farm, withRow, withLine}
 use Rattle.model.specs.Line.{started}
 use Rattle.table.specs.Block.{farmOf}
 use Rattle.decide.specs.SiteSheet.{siteSheet}
-use Rattle.rowwork.proofs.DidLaws.{did-same, did-quietly}
+use Rattle.closing.proofs.DidLaws.{did-same, did-quietly}
 use Rattle.line.proofs.LineLaws.{joined-first, joined-behind}
 use borrow.Author.Needs.{needs}
 use Rattle.line.proofs.join.join_line.Statement.{statement}

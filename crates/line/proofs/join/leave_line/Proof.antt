@@ -6,7 +6,7 @@ use Rattle.model.specs.FarmSheet.{FarmSheet}
 use Rattle.model.specs.Farm.{Farm}
 use Rattle.table.specs.Block.{farmOf}
 use Rattle.decide.specs.SiteSheet.{siteSheet}
-use Rattle.rowwork.proofs.DidLaws.{did-same, did-quietly, did-nothing}
+use Rattle.closing.proofs.DidLaws.{did-same, did-quietly, did-nothing}
 use Rattle.line.proofs.LineLaws.{left-none, left-head, left-behind}
 use borrow.Author.Needs.{needs}
 use Rattle.line.proofs.join.leave_line.Statement.{statement}

@@ -13,9 +13,9 @@ use Rattle.model.specs.Farm.{Farm, andThen}
 use Rattle.model.specs.Line.{advanced, headVerdict, settleLine}
 use Rattle.table.specs.Block.{farmOf}
 use Rattle.decide.specs.SiteSheet.{siteSheet}
-use Rattle.rowwork.specs.Did.{Seated}
+use Rattle.closing.specs.Did.{Seated}
 use Rattle.rowwork.specs.Acted.{acted}
-use Rattle.rowwork.proofs.DidLaws.{did-same, did-nothing, did-then, then-assoc}
+use Rattle.closing.proofs.DidLaws.{did-same, did-nothing, did-then, then-assoc}
 use Rattle.line.specs.Verdict.{isPending}
 use Rattle.line.proofs.LineLaws.{seated-rest, acted-line, advanced-line, settle-none, settle-pending, settle-acts}
 use borrow.Author.Needs.{needs}

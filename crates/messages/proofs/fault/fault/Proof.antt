@@ -9,7 +9,7 @@ use Rattle.model.specs.FarmSheet.{FarmSheet}
 use Rattle.model.specs.Farm.{Farm}
 use Rattle.table.specs.Block.{farmOf}
 use Rattle.decide.specs.SiteSheet.{siteSheet}
-use Rattle.rowwork.proofs.DidLaws.{did-same}
+use Rattle.closing.proofs.DidLaws.{did-same}
 use Rattle.rowwork.specs.Refused.{refusedBy}
 use borrow.Author.Needs.{needs}
 use Rattle.messages.proofs.fault.fault.Statement.{statement}

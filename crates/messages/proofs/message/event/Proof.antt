@@ -7,7 +7,7 @@ use Rattle.model.specs.Farm.{Farm}
 use Rattle.model.specs.Bytes.{eventDone}
 use Rattle.table.specs.Block.{farmOf}
 use Rattle.decide.specs.SiteSheet.{siteSheet}
-use Rattle.rowwork.proofs.DidLaws.{did-same, did-nothing}
+use Rattle.closing.proofs.DidLaws.{did-same, did-nothing}
 use Rattle.site.proofs.SiteLaws.{sited-same, sited-fit}
 use Rattle.stream.specs.Took.{eventOf}
 use Rattle.messages.proofs.MessageLaws.{wrong-done}

@@ -14,7 +14,7 @@ use Rattle.model.specs.Bytes.{requested, diagnosed}
 use Rattle.model.proofs.SameSite.{marked-same}
 use Rattle.table.specs.Block.{farmOf}
 use Rattle.decide.specs.SiteSheet.{siteSheet}
-use Rattle.rowwork.proofs.DidLaws.{did-same, did-quietly, did-nothing}
+use Rattle.closing.proofs.DidLaws.{did-same, did-quietly, did-nothing}
 use Rattle.site.proofs.SiteLaws.{sited-same}
 use Rattle.messages.proofs.LengthLaws.{request-long, response-long, diagnostic-long, payload-length}
 use Rattle.messages.proofs.MessageLaws.{is-request, is-response, is-diagnostic, is-dropped}

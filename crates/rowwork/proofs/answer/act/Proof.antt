@@ -1,7 +1,7 @@
 -- `answer::act` meets its contract.
 -- Assumes nothing.
 use Rattle.rowwork.specs.Acted.{acted}
-use Rattle.rowwork.proofs.DidLaws.{did-nothing}
+use Rattle.closing.proofs.DidLaws.{did-nothing}
 use borrow.Author.Needs.{needs}
 use Rattle.rowwork.proofs.answer.act.Statement.{statement}
 use Rattle.rowwork.proofs.answer.act.Tie as tie

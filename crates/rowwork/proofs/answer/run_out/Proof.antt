@@ -8,7 +8,7 @@ use Rattle.model.specs.Farm.{Farm, closedWhere}
 use Rattle.model.specs.Line.{accepted, isSilent, answered}
 use Rattle.table.specs.Block.{farmOf}
 use Rattle.decide.specs.SiteSheet.{siteSheet}
-use Rattle.rowwork.proofs.DidLaws.{did-same, did-then}
+use Rattle.closing.proofs.DidLaws.{did-same, did-then}
 use borrow.Author.Needs.{needs}
 use Rattle.rowwork.proofs.answer.run_out.Statement.{statement}
 use Rattle.rowwork.proofs.answer.run_out.Tie as tie

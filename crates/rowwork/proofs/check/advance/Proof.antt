@@ -2,7 +2,7 @@
 -- Assumes nothing.
 use Rattle.model.specs.Line.{started, advanced}
 use Rattle.decide.specs.SiteSheet.{siteSheet}
-use Rattle.rowwork.proofs.DidLaws.{did-after}
+use Rattle.closing.proofs.DidLaws.{did-after}
 use borrow.Author.Needs.{needs}
 use Rattle.rowwork.proofs.check.advance.Statement.{statement}
 use Rattle.rowwork.proofs.check.advance.Tie as tie

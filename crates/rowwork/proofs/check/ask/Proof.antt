@@ -8,8 +8,8 @@ use Rattle.model.specs.Line.{askedIf}
 use Rattle.model.proofs.Seats.{seatsTo}
 use Rattle.table.specs.Block.{farmOf}
 use Rattle.decide.specs.SiteSheet.{siteSheet}
-use Rattle.rowwork.specs.Did.{Did}
-use Rattle.rowwork.proofs.DidLaws.{did-start, did-seat, did-all}
+use Rattle.closing.specs.Did.{Did}
+use Rattle.closing.proofs.DidLaws.{did-start, did-seat, did-all}
 use borrow.Author.Needs.{needs}
 use Rattle.rowwork.proofs.check.ask.Statement.{statement}
 use Rattle.rowwork.proofs.check.ask.Tie as tie

@@ -1,6 +1,6 @@
 -- `check::ask_by` meets its contract.
 -- Assumes nothing.
-use Rattle.rowwork.proofs.DidLaws.{did-nothing}
+use Rattle.closing.proofs.DidLaws.{did-nothing}
 use borrow.Author.Needs.{needs}
 use Rattle.rowwork.proofs.check.ask_by.Statement.{statement}
 use Rattle.rowwork.proofs.check.ask_by.Tie as tie

@@ -4,8 +4,8 @@ use mathlib.Core.Path.{refl, sym, _∙_}
 use Rattle.model.specs.Farm.{Farm}
 use Rattle.table.specs.Block.{farmOf}
 use Rattle.decide.specs.SiteSheet.{siteSheet}
-use Rattle.rowwork.proofs.DidLaws.{did-same, did-nothing, did-says}
-use Rattle.rowwork.proofs.StepLaws.{asked-yes, asked-no}
+use Rattle.closing.proofs.DidLaws.{did-same, did-nothing, did-says}
+use Rattle.closing.proofs.StepLaws.{asked-yes, asked-no}
 use borrow.Author.Needs.{needs}
 use Rattle.rowwork.proofs.check.ask_if.Statement.{statement}
 use Rattle.rowwork.proofs.check.ask_if.Tie as tie

@@ -10,8 +10,8 @@ use Rattle.model.specs.Farm.{Farm}
 use Rattle.model.specs.Line.{socketRules, asking, cleared}
 use Rattle.table.specs.Block.{farmOf}
 use Rattle.decide.specs.SiteSheet.{siteSheet}
-use Rattle.rowwork.proofs.DidLaws.{did-same, did-quietly}
-use Rattle.rowwork.proofs.StepLaws.{started-none, started-head}
+use Rattle.closing.proofs.DidLaws.{did-same, did-quietly}
+use Rattle.closing.proofs.StepLaws.{started-none, started-head}
 use borrow.Author.Needs.{needs}
 use Rattle.rowwork.proofs.check.start.Statement.{statement}
 use Rattle.rowwork.proofs.check.start.Tie as tie

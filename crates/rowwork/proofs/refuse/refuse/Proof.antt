@@ -5,7 +5,7 @@ use Rattle.model.specs.FarmSheet.{FarmSheet}
 use Rattle.model.specs.Farm.{Farm, closed}
 use Rattle.table.specs.Block.{farmOf}
 use Rattle.decide.specs.SiteSheet.{siteSheet}
-use Rattle.rowwork.proofs.DidLaws.{did-same, did-says, did-then}
+use Rattle.closing.proofs.DidLaws.{did-same, did-says, did-then}
 use Rattle.rowwork.proofs.RefusedLaws.{refused-closes, refused-stays}
 use borrow.Author.Needs.{needs}
 use Rattle.rowwork.proofs.refuse.refuse.Statement.{statement}

@@ -7,7 +7,7 @@ use Rattle.model.specs.Move.{linkGone}
 use Rattle.plan.specs.Plan.{PlanOk}
 use Rattle.table.specs.Block.{Whole}
 use Rattle.decide.specs.SiteSheet.{siteSheet}
-use Rattle.rowwork.specs.Did.{RowsFit}
+use Rattle.closing.specs.Did.{RowsFit}
 use Rattle.serve.proofs.BlockLaws.{lent-is, did-lent}
 use borrow.Author.Needs.{needs}
 use Rattle.serve.proofs.closed.link_lost_at.Statement.{statement}

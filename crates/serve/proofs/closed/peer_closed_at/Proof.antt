@@ -9,7 +9,7 @@ use Rattle.plan.specs.Plan.{PlanOk}
 use Rattle.table.specs.Layout.{seats}
 use Rattle.table.specs.Block.{farmOf, Whole}
 use Rattle.decide.specs.SiteSheet.{siteSheet}
-use Rattle.rowwork.specs.Did.{RowsFit, Seated}
+use Rattle.closing.specs.Did.{RowsFit, Seated}
 use Rattle.serve.proofs.BlockLaws.{lent-is, did-lent}
 use borrow.Author.Needs.{needs}
 use Rattle.serve.proofs.closed.peer_closed_at.Statement.{statement}

@@ -2,8 +2,8 @@
 -- Assumes nothing.
 use Rattle.decide.specs.SiteSheet.{siteSheet}
 use borrow.Author.Needs.{needs}
-use Rattle.rowwork.proofs.say.say.Statement.{statement}
-use Rattle.rowwork.proofs.say.say.Tie as tie
+use Rattle.closing.proofs.say.say.Statement.{statement}
+use Rattle.closing.proofs.say.say.Tie as tie
 
 wide-requires : tie.Need-wide-requires
 wide-requires c κs = search needs

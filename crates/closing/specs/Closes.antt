@@ -6,8 +6,8 @@ use mathlib.Core.List.{List}
 use Rattle.kinds.specs.declared.Row.{Row}
 use Rattle.model.specs.Row.{isOpen, atLimit}
 use Rattle.model.specs.Line.{isSilent}
-use Rattle.rowwork.specs.declared.close.Closing.{Closing}
-use Rattle.rowwork.specs.declared.close.Closing.the-variants.{Silent, Due, Open}
+use Rattle.closing.specs.declared.close.Closing.{Closing}
+use Rattle.closing.specs.declared.close.Closing.the-variants.{Silent, Due, Open}
 
 -- which rows close
 abbrev pub closesBy : Closing → List Bool → ℕ → Row → Bool

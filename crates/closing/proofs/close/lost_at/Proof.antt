@@ -3,8 +3,8 @@
 use mathlib.Core.Path.{_∙_}
 use native.Mathlib.Nat.{zero-add}
 use borrow.Author.Needs.{needs}
-use Rattle.rowwork.proofs.close.lost_at.Statement.{statement}
-use Rattle.rowwork.proofs.close.lost_at.Tie as tie
+use Rattle.closing.proofs.close.lost_at.Statement.{statement}
+use Rattle.closing.proofs.close.lost_at.Tie as tie
 
 enum-known-place : tie.Need-enum-known-place
 enum-known-place c = search needs

@@ -5,10 +5,10 @@ use Rattle.kinds.specs.declared.Row.{Row}
 use Rattle.model.specs.Row.{freeRow, rowAt, inHand}
 use Rattle.model.specs.Farm.{Farm, withRow, withMeters, lostMore, closed}
 use Rattle.table.specs.Block.{farmOf}
-use Rattle.rowwork.proofs.DidLaws.{did-says}
+use Rattle.closing.proofs.DidLaws.{did-says}
 use borrow.Author.Needs.{needs}
-use Rattle.rowwork.proofs.close.close.Statement.{statement}
-use Rattle.rowwork.proofs.close.close.Tie as tie
+use Rattle.closing.proofs.close.close.Statement.{statement}
+use Rattle.closing.proofs.close.close.Tie as tie
 
 row-at-requires : tie.Need-row-at-requires
 row-at-requires c κs = search needs

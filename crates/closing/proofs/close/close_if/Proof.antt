@@ -3,12 +3,12 @@
 use mathlib.Core.Path.{sym, _∙_}
 use Rattle.table.specs.Block.{farmOf}
 use Rattle.decide.specs.SiteSheet.{siteSheet}
-use Rattle.rowwork.specs.Closes.{closesBy}
-use Rattle.rowwork.proofs.DidLaws.{did-same, did-nothing}
-use Rattle.rowwork.proofs.StepLaws.{closes-yes, closes-no}
+use Rattle.closing.specs.Closes.{closesBy}
+use Rattle.closing.proofs.DidLaws.{did-same, did-nothing}
+use Rattle.closing.proofs.StepLaws.{closes-yes, closes-no}
 use borrow.Author.Needs.{needs}
-use Rattle.rowwork.proofs.close.close_if.Statement.{statement}
-use Rattle.rowwork.proofs.close.close_if.Tie as tie
+use Rattle.closing.proofs.close.close_if.Statement.{statement}
+use Rattle.closing.proofs.close.close_if.Tie as tie
 
 closes-requires : tie.Need-closes-requires
 closes-requires c κs = search needs

@@ -7,12 +7,12 @@ use Rattle.model.specs.Farm.{seatCount, closedIf}
 use Rattle.model.proofs.Seats.{seatsTo}
 use Rattle.table.specs.Block.{farmOf}
 use Rattle.decide.specs.SiteSheet.{siteSheet}
-use Rattle.rowwork.specs.Did.{Did}
-use Rattle.rowwork.specs.Closes.{closesBy}
-use Rattle.rowwork.proofs.DidLaws.{did-start, did-seat, did-all}
+use Rattle.closing.specs.Did.{Did}
+use Rattle.closing.specs.Closes.{closesBy}
+use Rattle.closing.proofs.DidLaws.{did-start, did-seat, did-all}
 use borrow.Author.Needs.{needs}
-use Rattle.rowwork.proofs.close.close_where.Statement.{statement}
-use Rattle.rowwork.proofs.close.close_where.Tie as tie
+use Rattle.closing.proofs.close.close_where.Statement.{statement}
+use Rattle.closing.proofs.close.close_where.Tie as tie
 
 abbrev Inv-loop : tie.InvT-loop
 Inv-loop b₀ p₀ site what m i₀ b p i = Did p₀ b p (seatsTo (closedIf (siteSheet site) (closesBy what m)) (farmOf b₀) i) × (i ≤ 9)

@@ -6,7 +6,7 @@ ghost use Rattle.model.specs.Farm.{says};
 ghost use Rattle.plan.specs.Plan.{itemsOf, PlanOk, Said, pushedTo};
 ghost use Rattle.table.specs.Layout.{seats};
 ghost use Rattle.decide.specs.SiteSheet.{siteSheet};
-ghost use Rattle.rowwork.specs.Did.{RowsFit};
+ghost use Rattle.closing.specs.Did.{RowsFit};
 use kinds::Item;
 use kinds::Place;
 use kinds::Reply;

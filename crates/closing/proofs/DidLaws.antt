@@ -15,7 +15,7 @@ use Rattle.model.specs.Farm.{Farm, Done, does, quietly, andThen, eachSeat, seat
 use Rattle.model.proofs.Seats.{seatsTo, seats-zero, seats-suc, seats-all}
 use Rattle.plan.specs.Plan.{planRoom, itemsOf, PlanOk, Said, pushedTo}
 use Rattle.table.specs.Block.{farmOf, Whole, Holds}
-use Rattle.rowwork.specs.Did.{pushedAll, Did}
+use Rattle.closing.specs.Did.{pushedAll, Did}
 
 -- ---- pushing
 

@@ -2,8 +2,8 @@
 -- Assumes nothing.
 use Rattle.kinds.specs.Clock.{initialLimit, generalLimit}
 use borrow.Author.Needs.{needs}
-use Rattle.rowwork.proofs.close.at_limit.Statement.{statement}
-use Rattle.rowwork.proofs.close.at_limit.Tie as tie
+use Rattle.closing.proofs.close.at_limit.Statement.{statement}
+use Rattle.closing.proofs.close.at_limit.Tie as tie
 
 enum-told : tie.Need-enum-told
 enum-told c = search needs

@@ -2,8 +2,8 @@
 -- Assumes nothing.
 use mathlib.Core.Path.{refl}
 use Rattle.model.specs.Row.{noHead}
-use Rattle.rowwork.proofs.say.row_of.Statement.{statement}
-use Rattle.rowwork.proofs.say.row_of.Tie as tie
+use Rattle.closing.proofs.say.row_of.Statement.{statement}
+use Rattle.closing.proofs.say.row_of.Tie as tie
 
 returns : tie.Need-returns
 unfolding noHead

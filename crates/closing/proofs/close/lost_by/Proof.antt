@@ -2,8 +2,8 @@
 -- Assumes nothing.
 use mathlib.Core.Path.{_∙_}
 use borrow.Author.Needs.{needs}
-use Rattle.rowwork.proofs.close.lost_by.Statement.{statement}
-use Rattle.rowwork.proofs.close.lost_by.Tie as tie
+use Rattle.closing.proofs.close.lost_by.Statement.{statement}
+use Rattle.closing.proofs.close.lost_by.Tie as tie
 
 enum-told : tie.Need-enum-told
 enum-told c = search needs

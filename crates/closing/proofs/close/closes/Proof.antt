@@ -3,8 +3,8 @@
 use mathlib.Core.Path.{ap, _∙_}
 use Rattle.model.specs.Row.{atLimitState, isOpenState}
 use borrow.Author.Needs.{needs}
-use Rattle.rowwork.proofs.close.closes.Statement.{statement}
-use Rattle.rowwork.proofs.close.closes.Tie as tie
+use Rattle.closing.proofs.close.closes.Statement.{statement}
+use Rattle.closing.proofs.close.closes.Tie as tie
 
 state-at-requires : tie.Need-state-at-requires
 state-at-requires c κs = search needs
