@@ -21,7 +21,7 @@ fn meters_at(t: &[u8], f: usize) -> Meters
 {
     let a = f * BLOCK;
     let e = a + BLOCK;
-    table::meters::meters_at(&t[a..e])
+    table_meters::meters_at(&t[a..e])
 }
 
 pub fn meters(t: &[u8; TABLE], f: FarmNo) -> Meters

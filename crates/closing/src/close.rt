@@ -38,9 +38,9 @@ fn lost_at(m: Meters, place: Place) -> Meters
     ensures { λ r. ⌜ r ≡ lostMore (inHandAt place) m ⌝ }
 {
     match place {
-        Place::Header(n) => table::meters::lose(m, 0, n as u32),
-        Place::Reading(n) => table::meters::lose(m, HEAD, n),
-        Place::Skipping(n) => table::meters::lose(m, HEAD, n),
+        Place::Header(n) => table_meters::lose(m, 0, n as u32),
+        Place::Reading(n) => table_meters::lose(m, HEAD, n),
+        Place::Skipping(n) => table_meters::lose(m, HEAD, n),
     }
 }
 
@@ -49,7 +49,7 @@ fn lost_by(m: Meters, state: RowState, place: Place) -> Meters
     ensures { λ r. ⌜ r ≡ lostMore (inHandBy state place) m ⌝ }
 {
     match state {
-        RowState::Free => table::meters::lose(m, 0, 0),
+        RowState::Free => table_meters::lose(m, 0, 0),
         RowState::Fresh(_) => lost_at(m, place),
         RowState::Waiting(_) => lost_at(m, place),
         RowState::Active(_, _) => lost_at(m, place),
@@ -65,10 +65,10 @@ pub fn close(b: &mut [u8], p: &mut [u8], site: Site, i: usize)
     let row = table::row::row_at(b, i);
     let state = row.state;
     let place = row.place;
-    let m = table::meters::meters_at(b);
+    let m = table_meters::meters_at(b);
     let n = lost_by(m, state, place);
     table::row::put_row(b, i, say::row_of(RowState::Free));
-    table::meters::put_meters(b, n);
+    table_meters::put_meters(b, n);
     say::say(p, site, i, Reply::Close);
 }
 

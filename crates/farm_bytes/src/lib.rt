@@ -70,7 +70,7 @@ fn heard_state(count: usize, state: RowState) -> RowState
 fn took(m: Meters, count: usize) -> Meters
     ensures { λ r. ⌜ r ≡ tookMore count m ⌝ }
 {
-    table::meters::took(m, 0, (count % METER) as u32)
+    table_meters::took(m, 0, (count % METER) as u32)
 }
 
 // "8 for a header that closes"; a header whose payload is skipped is not finished yet.
@@ -78,9 +78,9 @@ fn over(m: Meters, place: Place) -> Meters
     ensures { λ r. ⌜ r ≡ finishedMore (overAt place) m ⌝ }
 {
     match place {
-        Place::Header(_) => table::meters::ended(m, HEAD, 0),
-        Place::Reading(_) => table::meters::ended(m, 0, 0),
-        Place::Skipping(_) => table::meters::ended(m, 0, 0),
+        Place::Header(_) => table_meters::ended(m, HEAD, 0),
+        Place::Reading(_) => table_meters::ended(m, 0, 0),
+        Place::Skipping(_) => table_meters::ended(m, 0, 0),
     }
 }
 
@@ -89,10 +89,10 @@ fn ended(m: Meters, event: Event, place: Place) -> Meters
     ensures { λ r. ⌜ r ≡ finishedMore (endedBy (eventOf event) (streamOf place noHead [])) m ⌝ }
 {
     match event {
-        Event::InputEnded => table::meters::ended(m, 0, 0),
+        Event::InputEnded => table_meters::ended(m, 0, 0),
         Event::Wrong(_) => over(m, place),
-        Event::Finished(_, size) => table::meters::ended(m, HEAD, size),
-        Event::Skipped(size) => table::meters::ended(m, HEAD, size),
+        Event::Finished(_, size) => table_meters::ended(m, HEAD, size),
+        Event::Skipped(size) => table_meters::ended(m, HEAD, size),
     }
 }
 
@@ -105,9 +105,9 @@ fn hear(b: &mut [u8], seat: usize, t: Took)
     let place = t.place;
     let head = t.head;
     let state = heard_state(t.count, table::row::state_at(b, seat));
-    let m = took(table::meters::meters_at(b), t.count);
+    let m = took(table_meters::meters_at(b), t.count);
     table::row::put_row(b, seat, Row { state, place, head });
-    table::meters::put_meters(b, ended(m, event, place));
+    table_meters::put_meters(b, ended(m, event, place));
 }
 
 // ---- the payload

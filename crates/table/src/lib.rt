@@ -2,7 +2,6 @@
 // table_whole know a place of it.
 pub mod clock; // clock.rt: the check clock
 pub mod marks; // marks.rt: who answered
-pub mod meters; // meters.rt: taken, finished, lost
 pub mod row; // row.rt: the rows
 
 use rowbytes::ROW;
@@ -17,7 +16,7 @@ pub const FARMS: usize = 4;
 
 pub const TABLE: usize = FARMS * BLOCK;
 
-const METERS: usize = 0;
+pub const METERS: usize = 0;
 
 pub const LINE: usize = 12;
 

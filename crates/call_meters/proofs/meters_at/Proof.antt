@@ -10,7 +10,7 @@ use Rattle.call_meters.proofs.meters_at.Statement.{statement}
 use Rattle.call_meters.proofs.meters_at.Tie as tie
 use Rattle.call_meters.proofs.meters_at.Reads as reads
 use Rattle.call_meters.proofs.meters_at.Lts as lts
-use Rattle.table.proofs.meters.meters_at.Reads as meters-at-reads
+use Rattle.table_meters.proofs.meters_at.Reads as meters-at-reads
 
 mul-a : tie.Need-mul-a
 mul-a c = search needs

@@ -1,8 +1,8 @@
 -- `meters::lose` meets its contract.
 -- Assumes nothing.
 use borrow.Author.Needs.{needs}
-use Rattle.table.proofs.meters.lose.Statement.{statement}
-use Rattle.table.proofs.meters.lose.Tie as tie
+use Rattle.table_meters.proofs.lose.Statement.{statement}
+use Rattle.table_meters.proofs.lose.Tie as tie
 
 more-requires : tie.Need-more-requires
 more-requires c κs = search needs

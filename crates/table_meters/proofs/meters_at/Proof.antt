@@ -1,9 +1,9 @@
 -- `meters::meters_at` meets its contract.
 -- Assumes nothing.
 use Rattle.table.specs.Block.{farmOf}
 use borrow.Author.Needs.{needs}
-use Rattle.table.proofs.meters.meters_at.Statement.{statement}
-use Rattle.table.proofs.meters.meters_at.Tie as tie
+use Rattle.table_meters.proofs.meters_at.Statement.{statement}
+use Rattle.table_meters.proofs.meters_at.Tie as tie
 
 sub-read-meters : tie.Need-sub-read-meters
 sub-read-meters c = search needs

@@ -1,8 +1,8 @@
 -- `meters::took` meets its contract.
 -- Assumes nothing.
 use borrow.Author.Needs.{needs}
-use Rattle.table.proofs.meters.took.Statement.{statement}
-use Rattle.table.proofs.meters.took.Tie as tie
+use Rattle.table_meters.proofs.took.Statement.{statement}
+use Rattle.table_meters.proofs.took.Tie as tie
 
 more-requires : tie.Need-more-requires
 more-requires c κs = search needs

@@ -1,9 +1,9 @@
 -- `meters::read_meters` meets its contract.
 -- Assumes nothing.
 use Rattle.table.specs.Block.{metersFrom}
 use borrow.Author.Needs.{needs}
-use Rattle.table.proofs.meters.read_meters.Statement.{statement}
-use Rattle.table.proofs.meters.read_meters.Tie as tie
+use Rattle.table_meters.proofs.read_meters.Statement.{statement}
+use Rattle.table_meters.proofs.read_meters.Tie as tie
 
 read32-requires : tie.Need-read32-requires
 read32-requires c κs = search needs

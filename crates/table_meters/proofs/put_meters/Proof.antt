@@ -7,12 +7,12 @@ use native.Mathlib.Omega.{arith}
 use lib.ListN.{length}
 use Rattle.octets.specs.Numbers.{be32}
 use Rattle.octets.proofs.PutLaws.{put-more}
 use Rattle.table.specs.Layout.{metersAt, blockSize}
 use Rattle.table.specs.Block.{metersImage}
 use Rattle.table.proofs.BlockLaws.{meters-put}
 use borrow.Author.Needs.{needs}
-use Rattle.table.proofs.meters.put_meters.Statement.{statement}
-use Rattle.table.proofs.meters.put_meters.Tie as tie
+use Rattle.table_meters.proofs.put_meters.Statement.{statement}
+use Rattle.table_meters.proofs.put_meters.Tie as tie
 
 write32-requires : tie.Need-write32-requires
 write32-requires c κs = search needs

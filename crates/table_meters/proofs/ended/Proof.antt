@@ -1,8 +1,8 @@
 -- `meters::ended` meets its contract.
 -- Assumes nothing.
 use borrow.Author.Needs.{needs}
-use Rattle.table.proofs.meters.ended.Statement.{statement}
-use Rattle.table.proofs.meters.ended.Tie as tie
+use Rattle.table_meters.proofs.ended.Statement.{statement}
+use Rattle.table_meters.proofs.ended.Tie as tie
 
 more-requires : tie.Need-more-requires
 more-requires c κs = search needs

@@ -3,10 +3,10 @@ ghost use mathlib.Core.Path.{_≡_};
 ghost use Prim.Native.Nat.{_+_};
 ghost use lib.ListN.{length};
 ghost use Rattle.model.specs.Farm.{tookMore, finishedMore, lostMore, wrap, withMeters};
 ghost use Rattle.table.specs.Layout.{metersSize, blockSize};
 ghost use Rattle.table.specs.Block.{metersFrom, farmOf, Whole, Holds};
-use crate::LINE;
-use crate::METERS;
+use table::LINE;
+use table::METERS;
 use kinds::Meters;
 
 // A meter goes up.
