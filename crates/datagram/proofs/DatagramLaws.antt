@@ -12,7 +12,7 @@ use Rattle.octets.specs.Choice.{pick, unless}
 use Rattle.kinds.specs.declared.DatagramVerdict.{DatagramVerdict}
 use Rattle.kinds.specs.declared.DatagramVerdict.the-variants.{NotAnswered, Passes, Wrong}
 use Rattle.kinds.specs.declared.Fault.the-variants.{Pattern, UnknownType, TooLong, WrongLength}
-use Rattle.wire.specs.Types.{udp, knownOn}
+use Rattle.types.specs.Types.{udp, knownOn}
 use Rattle.wire.specs.Header.{headerSize, headerAt}
 use Rattle.datagram.specs.Datagram.{rightFor, lengthRight, headVerdict, datagramVerdict}
 

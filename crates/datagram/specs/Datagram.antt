@@ -14,7 +14,7 @@ use Rattle.kinds.specs.declared.Reply.the-variants.{Nack, Identity, Status, Pow
 use Rattle.kinds.specs.declared.Answer.{Answer}
 use Rattle.kinds.specs.declared.Answer.the-variants.{Nothing, With}
 use Rattle.layout.specs.FarmRecord.{quotaIn, modeIn, vinIn, eidIn}
-use Rattle.wire.specs.Types.{udp, knownOn, lengthFits}
+use Rattle.types.specs.Types.{udp, knownOn, lengthFits}
 use Rattle.wire.specs.Header.{headerSize, headerAt, rightPattern, codeOf}
 use Rattle.wire.specs.declared.header.Header.{Header}
 

@@ -31,7 +31,7 @@ fn is_right_for(h: Header) -> bool
 fn is_length_right(h: Header, following: usize) -> bool
     ensures { λ r. ⌜ r ≡ lengthRight h following ⌝ }
 {
-    if !wire::types::length_fits(wire::types::UDP, h.kind, h.length) {
+    if !types::length_fits(types::UDP, h.kind, h.length) {
         return false;
     }
     let n = h.length as usize;
@@ -44,7 +44,7 @@ fn judge_head(h: Header, following: usize) -> DatagramVerdict
     if !is_right_for(h) {
         return DatagramVerdict::Wrong(Fault::Pattern);
     }
-    if !wire::types::known(wire::types::UDP, h.kind) {
+    if !types::known(types::UDP, h.kind) {
         return DatagramVerdict::Wrong(Fault::UnknownType);
     }
     if is_length_right(h, following) {

@@ -5,7 +5,7 @@ use Prim.{tt}
 use Rattle.octets.specs.Fold.{upTo}
 use Rattle.octets.specs.Parts.{parts, joined}
 use Rattle.octets.specs.Search.{some, all, firstAt, countIf, sameList}
-use Rattle.wire.specs.Types.{types, knownOn, lengthFits}
+use Rattle.types.specs.Types.{types, knownOn, lengthFits}
 use Rattle.wire.specs.Header.{verdictOf}
 use Rattle.outsheet.specs.Sheet.{entryBytes, bodies, offsets, sheetOf}
 use Rattle.sheet.specs.Find.{lookup}

@@ -16,7 +16,7 @@ use Rattle.kinds.specs.declared.Verdict.{Verdict}
 use Rattle.kinds.specs.declared.Verdict.the-variants.{Passes, Wrong}
 use Rattle.kinds.specs.declared.Place.{Place}
 use Rattle.kinds.specs.declared.Place.the-variants.{Header, Reading, Skipping}
-use Rattle.wire.specs.Types.{types, tcp, lengthFits}
+use Rattle.types.specs.Types.{types, tcp, lengthFits}
 use Rattle.wire.specs.Header.{headerSize, mostPayload, headerAt, verdictOf}
 use Rattle.wire.proofs.HeaderLaws.{passes-all}
 use Rattle.model.specs.Stream.{Stream, Fed, more, ends, judged, feedAt, feed, takesBy, takes}

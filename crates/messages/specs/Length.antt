@@ -4,7 +4,7 @@ use Prim.{Unit}
 use Prim.Native.Nat.{ℕ, _≤_}
 use mathlib.Core.Path.{_≡_}
 use mathlib.Core.Bool.{true}
-use Rattle.wire.specs.Types.{tcp, lengthFits}
+use Rattle.types.specs.Types.{tcp, lengthFits}
 use Rattle.wire.specs.Header.{mostPayload}
 use Rattle.model.specs.Stream.{Event, inputEnded, wrong, finished, skipped}
 

@@ -14,7 +14,7 @@ use Rattle.kinds.specs.declared.Reply.{Reply}
 use Rattle.kinds.specs.declared.Reply.the-variants.{Nack, Identity, Activation, AliveCheck, Status, PowerMode, Message, Ack, DiagnosticNack, Close, HandOn}
 use Rattle.kinds.specs.declared.Request.{Request}
 use Rattle.kinds.specs.declared.Check.the-variants.{One}
-use Rattle.wire.specs.Types.{types, knownOn, lengthFits}
+use Rattle.types.specs.Types.{types, knownOn, lengthFits}
 use Rattle.wire.specs.Header.{verdictOf, ourVersion}
 use Rattle.sheet.specs.Find.{lookup}
 use Rattle.sheet.specs.Rows.{ownerFrom}

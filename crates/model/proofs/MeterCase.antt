@@ -8,7 +8,7 @@ use Rattle.octets.specs.Search.{some}
 use Rattle.kinds.specs.declared.Item.{Item}
 use Rattle.kinds.specs.declared.Reply.{Reply}
 use Rattle.kinds.specs.declared.Reply.the-variants.{Activation, Close}
-use Rattle.wire.specs.Types.{types, knownOn, lengthFits}
+use Rattle.types.specs.Types.{types, knownOn, lengthFits}
 use Rattle.wire.specs.Header.{ourVersion, verdictOf}
 use Rattle.model.specs.FarmSheet.{FarmSheet, stranger}
 use Rattle.model.specs.Table.{connectTo, bytesFrom, peerClosedOn}

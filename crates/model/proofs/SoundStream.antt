@@ -19,8 +19,8 @@ use Rattle.kinds.specs.declared.Verdict.the-variants.{Passes, Wrong}
 use Rattle.kinds.specs.declared.Place.{Place}
 use Rattle.kinds.specs.declared.Place.the-variants.{Header, Reading, Skipping}
 use Rattle.wire.specs.declared.header.Header.{Header as Head}
-use Rattle.wire.specs.declared.types.Kind.{Kind}
-use Rattle.wire.specs.Types.{types, tcp, knownOn, lengthFits, isOfLength}
+use Rattle.types.specs.declared.Kind.{Kind}
+use Rattle.types.specs.Types.{types, tcp, knownOn, lengthFits, isOfLength}
 use Rattle.wire.specs.Header.{headerSize, headerAt, verdictOf, closes, rightPattern, mostPayload}
 use Rattle.model.specs.Stream.{Stream, Fed, more, ends, afterWrong, judged, feedAt, feed, takesBy, takes}
 use Rattle.model.specs.Rule.{PossibleAt}

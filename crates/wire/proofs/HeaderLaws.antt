@@ -13,7 +13,7 @@ use Rattle.kinds.specs.declared.Fault.{Fault}
 use Rattle.kinds.specs.declared.Fault.the-variants.{Pattern, UnknownType, TooLong, WrongLength}
 use Rattle.kinds.specs.declared.Verdict.the-variants.{Passes, Wrong}
 use Rattle.wire.specs.declared.header.Header.{Header}
-use Rattle.wire.specs.Types.{types, tcp, knownOn, lengthFits, orMore}
+use Rattle.types.specs.Types.{types, tcp, knownOn, lengthFits, orMore}
 use Rattle.wire.specs.Header.{verdictOf, everyday, rightPattern, mostPayload}
 
 -- the first line of the table allows a diagnostic message of 5 bytes and more

@@ -1,2 +1,1 @@
-pub mod TypesLaws
 pub mod HeaderLaws

@@ -12,7 +12,7 @@ use Rattle.kinds.specs.declared.Fault.the-variants.{Pattern, UnknownType, TooLo
 use Rattle.kinds.specs.declared.Verdict.{Verdict}
 use Rattle.kinds.specs.declared.Verdict.the-variants.{Passes, Wrong}
 use Rattle.wire.specs.declared.header.Header.{Header}
-use Rattle.wire.specs.Types.{tcp, knownOn, lengthFits}
+use Rattle.types.specs.Types.{tcp, knownOn, lengthFits}
 
 -- "Eight bytes: version, inverse, type u16, payload length u32."
 abbrev pub headerSize : ℕ

@@ -51,13 +51,13 @@ pub fn judge(h: Header) -> Verdict
     if is_everyday(h.kind, h.length) {
         return Verdict::Passes;
     }
-    if !super::types::known(super::types::TCP, h.kind) {
+    if !types::known(types::TCP, h.kind) {
         return Verdict::Wrong(Fault::UnknownType);
     }
     if 2048 < h.length {
         return Verdict::Wrong(Fault::TooLong);
     }
-    if super::types::length_fits(super::types::TCP, h.kind, h.length) {
+    if types::length_fits(types::TCP, h.kind, h.length) {
         Verdict::Passes
     } else {
         Verdict::Wrong(Fault::WrongLength)

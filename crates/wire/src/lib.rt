@@ -1,4 +1,3 @@
 // What comes in: the table of types, the verdict on a header, and what stands in the payloads that the core reads.
 pub mod header;
 pub mod payload;
-pub mod types;

@@ -3,7 +3,7 @@
 use mathlib.Core.Path.{_≡_, sym, _∙_}
 use mathlib.Core.Bool.{true}
 use borrow.Author.Tests.{ne-eqb, eq-eqb, not-true, not-false, lt-leb, le-leb}
-use Rattle.wire.specs.Types.{tcp, knownOn}
+use Rattle.types.specs.Types.{tcp, knownOn}
 use Rattle.wire.specs.Header.{verdictOf, rightPattern}
 use Rattle.wire.proofs.HeaderLaws.{everyday-passes}
 use borrow.Author.Needs.{needs}

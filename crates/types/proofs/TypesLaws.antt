@@ -2,7 +2,7 @@
 -- Assumes nothing.
 use mathlib.Core.Path.{_≡_, refl}
 use lib.ListN.{length}
-use Rattle.wire.specs.Types.{types}
+use Rattle.types.specs.Types.{types}
 
 pub types-length : length types ≡ 14
 unfolding types

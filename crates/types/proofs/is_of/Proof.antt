@@ -1,8 +1,8 @@
 -- `wire::types::is_of` meets its contract.
 -- Assumes nothing.
 use borrow.Author.Tests.{ne-eqb, eq-eqb}
-use Rattle.wire.proofs.types.is_of.Statement.{statement}
-use Rattle.wire.proofs.types.is_of.Tie as tie
+use Rattle.types.proofs.is_of.Statement.{statement}
+use Rattle.types.proofs.is_of.Tie as tie
 
 returns : tie.Need-returns
 returns c = simp (ne-eqb _ _ (c .if1 .taken))

@@ -1,9 +1,9 @@
 -- `wire::types::length_fits` meets its contract: it is the one walk of the table with one of the two questions.
 -- Assumes nothing.
-use Rattle.wire.specs.Types.{lengthFits}
+use Rattle.types.specs.Types.{lengthFits}
 use borrow.Author.Needs.{needs}
-use Rattle.wire.proofs.types.length_fits.Statement.{statement}
-use Rattle.wire.proofs.types.length_fits.Tie as tie
+use Rattle.types.proofs.length_fits.Statement.{statement}
+use Rattle.types.proofs.length_fits.Tie as tie
 
 some-line-requires : tie.Need-some-line-requires
 some-line-requires c κs = search needs

@@ -2,8 +2,8 @@
 -- Assumes nothing.
 use mathlib.Core.Path.{_∙_}
 use borrow.Author.Needs.{needs}
-use Rattle.wire.proofs.types.meets.Statement.{statement}
-use Rattle.wire.proofs.types.meets.Tie as tie
+use Rattle.types.proofs.meets.Statement.{statement}
+use Rattle.types.proofs.meets.Tie as tie
 
 enum-told : tie.Need-enum-told
 enum-told c = search needs

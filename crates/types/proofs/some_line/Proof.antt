@@ -8,10 +8,10 @@ use native.Mathlib.Omega.{arith}
 use lib.ListN.{drop}
 use Rattle.octets.specs.Search.{some}
 use Rattle.octets.proofs.SearchLaws.{some-here, some-next, some-end}
-use Rattle.wire.specs.Types.{types, lineAt, kindOf, isAsked}
-use Rattle.wire.proofs.TypesLaws.{types-length}
-use Rattle.wire.proofs.types.some_line.Statement.{statement}
-use Rattle.wire.proofs.types.some_line.Tie as tie
+use Rattle.types.specs.Types.{types, lineAt, kindOf, isAsked}
+use Rattle.types.proofs.TypesLaws.{types-length}
+use Rattle.types.proofs.some_line.Statement.{statement}
+use Rattle.types.proofs.some_line.Tie as tie
 
 abbrev Inv-loop : tie.InvT-loop
 Inv-loop port kind asked i₀ i = (i ≤ 14) × (some (isAsked asked port kind) types ≡ some (isAsked asked port kind) (drop i types))

@@ -1,10 +1,10 @@
 -- `wire::types::line` meets its contract: the constant table and the definition's list are the same by computation.
 -- Assumes nothing.
 use mathlib.Core.Path.{refl}
-use Rattle.wire.specs.Types.{types}
+use Rattle.types.specs.Types.{types}
 use borrow.Author.Needs.{needs}
-use Rattle.wire.proofs.types.line.Statement.{statement}
-use Rattle.wire.proofs.types.line.Tie as tie
+use Rattle.types.proofs.line.Statement.{statement}
+use Rattle.types.proofs.line.Tie as tie
 
 mul-result : tie.Need-mul-result
 mul-result c = search needs

@@ -1,9 +1,9 @@
 -- `wire::types::known` meets its contract: it is the one walk of the table with one of the two questions.
 -- Assumes nothing.
-use Rattle.wire.specs.Types.{knownOn}
+use Rattle.types.specs.Types.{knownOn}
 use borrow.Author.Needs.{needs}
-use Rattle.wire.proofs.types.known.Statement.{statement}
-use Rattle.wire.proofs.types.known.Tie as tie
+use Rattle.types.proofs.known.Statement.{statement}
+use Rattle.types.proofs.known.Tie as tie
 
 some-line-requires : tie.Need-some-line-requires
 some-line-requires c κs = search needs

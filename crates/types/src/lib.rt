@@ -2,7 +2,7 @@
 ghost use mathlib.Core.Path.{_≡_};
 ghost use Prim.Native.Nat.{_<_};
 ghost use Rattle.octets.specs.Search.{some};
-ghost use Rattle.wire.specs.Types.{types, lineAt, isOf, isOfLength, isAsked, knownOn, lengthFits};
+ghost use Rattle.types.specs.Types.{types, lineAt, isOf, isOfLength, isAsked, knownOn, lengthFits};
 
 // A line of the table: a payload type, the port that it is known on, the least and the greatest payload length.
 pub struct Kind {

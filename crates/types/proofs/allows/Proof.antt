@@ -3,8 +3,8 @@
 use mathlib.Core.Path.{sym, _∙_}
 use borrow.Author.Tests.{not-true, not-false, le-leb, lt-leb}
 use borrow.Author.Needs.{needs}
-use Rattle.wire.proofs.types.allows.Statement.{statement}
-use Rattle.wire.proofs.types.allows.Tie as tie
+use Rattle.types.proofs.allows.Statement.{statement}
+use Rattle.types.proofs.allows.Tie as tie
 
 is-of-requires : tie.Need-is-of-requires
 is-of-requires c κs = search needs

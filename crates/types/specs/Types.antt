@@ -7,9 +7,9 @@ use lib.ListN.{getD}
 use lib.Dec.{eqb, leb}
 use Rattle.octets.specs.Choice.{both}
 use Rattle.octets.specs.Search.{some}
-use Rattle.wire.specs.declared.types.Asked.{Asked}
-use Rattle.wire.specs.declared.types.Asked.the-variants.{AnyLength, Length}
-use Rattle.wire.specs.declared.types.Kind.{Kind}
+use Rattle.types.specs.declared.Asked.{Asked}
+use Rattle.types.specs.declared.Asked.the-variants.{AnyLength, Length}
+use Rattle.types.specs.declared.Kind.{Kind}
 
 -- the two ports
 abbrev pub tcp : ℕ
