@@ -3,5 +3,3 @@ pub mod Headers
 pub mod Rig
 pub mod Histories
 pub mod Table
-pub mod Entries
-pub mod Further

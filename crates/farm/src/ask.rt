@@ -5,8 +5,8 @@ ghost use Rattle.model.specs.Row.{rowAt, isFree, isFreeState, isOpen, isWaiting
 ghost use Rattle.model.specs.Move.{openRows};
 ghost use Rattle.table.specs.Layout.{blockSize};
 ghost use Rattle.table.specs.Block.{farmOf};
-use kinds::RowState;
 use closing::close;
+use kinds::RowState;
 use table::SEATS;
 
 fn state_free(s: RowState) -> bool

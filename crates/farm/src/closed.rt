@@ -6,11 +6,11 @@ ghost use Rattle.table.specs.Layout.{seats};
 ghost use Rattle.table.specs.Block.{farmOf, Whole};
 ghost use Rattle.decide.specs.SiteSheet.{siteSheet};
 ghost use Rattle.closing.specs.Did.{RowsFit, Seated, Did};
+use closing::close;
 use kinds::Site;
 use line::join;
 use line::settle;
 use rowwork::check;
-use closing::close;
 
 // "Peer closed gives one close for that row."
 pub fn peer_closed(b: &mut [u8], p: &mut [u8], site: Site, seat: usize)

@@ -9,10 +9,10 @@ ghost use Rattle.table.specs.Layout.{seats, blockSize};
 ghost use Rattle.table.specs.Block.{farmOf, Whole, Holds};
 ghost use Rattle.farm.specs.Connected.{Connected};
 use crate::ask;
+use closing::say;
 use kinds::Clock;
 use kinds::RowState;
 use octets::Found;
-use closing::say;
 
 // The lowest free row of the farm's own, of which there are so many.
 fn free_row(b: &[u8], rows: usize) -> Found

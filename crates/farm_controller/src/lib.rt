@@ -9,11 +9,11 @@ ghost use Rattle.table.specs.Layout.{blockSize};
 ghost use Rattle.table.specs.Block.{farmOf};
 ghost use Rattle.site.specs.Site.{Sited};
 ghost use Rattle.farm_controller.specs.Message.{sizeFits, Messaged};
+use closing::say;
 use kinds::FarmNo;
 use kinds::Reply;
 use kinds::Site;
 use octets::Found;
-use closing::say;
 use sheet::find;
 
 // "9 | controller message with 0 or over 2,044 bytes of user data"

@@ -8,10 +8,10 @@ ghost use Rattle.table.specs.Layout.{seats};
 ghost use Rattle.table.specs.Block.{farmOf, Whole, Holds};
 ghost use Rattle.decide.specs.SiteSheet.{siteSheet};
 ghost use Rattle.closing.specs.Did.{RowsFit, Seated, Did};
+use closing::close;
 use kinds::RowState;
 use kinds::Site;
 use line::settle;
-use closing::close;
 use table::SEATS;
 
 // "a running check clock": somebody waits.

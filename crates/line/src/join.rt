@@ -8,12 +8,12 @@ ghost use Rattle.table.specs.Layout.{seats, blockSize};
 ghost use Rattle.table.specs.Block.{farmOf, Whole, Holds};
 ghost use Rattle.decide.specs.SiteSheet.{siteSheet};
 ghost use Rattle.closing.specs.Did.{RowsFit, Did};
+use closing::say;
 use kinds::Decision;
 use kinds::Request;
 use kinds::RowState;
 use kinds::Site;
 use rowwork::check;
-use closing::say;
 
 // "A request that needs a check joins the end of its farm's line, the head being place 1; only the head's check runs."
 pub fn join_line(b: &mut [u8], p: &mut [u8], site: Site, seat: usize, q: Request)

@@ -5,9 +5,9 @@ ghost use lib.ListN.{length};
 ghost use Rattle.model.specs.Farm.{tookMore, finishedMore, lostMore, wrap, withMeters};
 ghost use Rattle.table.specs.Layout.{metersSize, blockSize};
 ghost use Rattle.table.specs.Block.{metersFrom, farmOf, Whole, Holds};
+use kinds::Meters;
 use table::LINE;
 use table::METERS;
-use kinds::Meters;
 
 // A meter goes up.
 fn more(meter: u32, head: u32, payload: u32) -> u32

@@ -27,10 +27,10 @@ use Rattle.model.specs.Move.{noRow, connects, ticked, datagramMove, mostUser, c
 use Rattle.model.specs.RuleTest.{everySeat, goodFarm}
 use Rattle.model.specs.Table.{Call, goodTable, leastOutput, assemblingSize, whose, step}
 use Rattle.model.specs.History.{run}
 use Rattle.days.specs.Day.{Hold}
 use Rattle.days.specs.Rig.{farmSheetOf, tableAfter, gives, taken}
 use Rattle.days.specs.Histories.{aActiveBAsked}
-use Rattle.days.specs.Further.{furtherDays, codeIfAnswered, codeIfSilent}
+use Rattle.days_further.specs.Further.{furtherDays, codeIfAnswered, codeIfSilent}
 
 pub further-days : Hold furtherDays
 unfolding furtherDays taken messageBytes datagramHead datagramVerdict answerBy answerTo datagramMove mostUser controllerMove farmSheetOf tableAfter gives upTo parts joined some all firstAt countIf sameList types knownOn lengthFits verdictOf entryBytes bodies offsets sheetOf lookup ownerFrom goodSheet everyBelow farmSheet noFarm slotSheet initialLimit checkLimit generalLimit mostTicks stepped noHead feed takes seatCount newFarm andThen eachSeat closed closedIf accepted socketRules decide allAnswered askedIf started advanced answered headVerdict settleLine joinedLine left isAsked marked requested diagnosed eventDone heard bytesDone noRow connects ticked move tickMove everySeat goodFarm goodTable leastOutput assemblingSize whose step run

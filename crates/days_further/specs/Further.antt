@@ -9,10 +9,10 @@ use Rattle.kinds.specs.Clock.{clockOf}
 use Rattle.model.specs.Row.{rowOf}
 use Rattle.model.specs.Farm.{newFarm, withRow}
 use Rattle.model.specs.Table.{Table, bytesFrom, connectTo, tick, datagramTo, messageFrom}
 use Rattle.days.specs.Day.{Day, plain}
 use Rattle.days.specs.Rig.{oneFarm, twoFarms, requestFor, alive, diagnostic, message, gives, sheetsFrom, taken, ticks, nothing, codeIn}
 use Rattle.days.specs.Histories.{one, oneActive, aActiveBAsked, threeWantOne, oneWaits, allAsked, sixWantOne}
-use Rattle.days.specs.Entries.{closing, handing, answer, check, nack, ack, refusal, status, toTester, sheet}
+use Rattle.days_further.specs.Entries.{closing, handing, answer, check, nack, ack, refusal, status, toTester, sheet}
 
 -- row 0 is active as 0E00 with this idle count (far beyond what a day computes from a fresh table)
 abbrev pub idleFor : ℕ → Table
