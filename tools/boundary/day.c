@@ -1,12 +1,23 @@
 /* Plays a recorded day over the C functions and prints a line for each call, as the replay program and the twin do, so that the lines can
    be compared. Everything that is lent stands between guard bytes, and after each call these, and whatever that call may not change, are
-   looked at. A day that ends in a broken record ends in `cut at N` or `bad at N`. */
+   looked at. A day that ends in a broken record ends in `cut at N` or `bad at N`.
+   Run by valgrind (and compiled where its headers are) it also finds out whether a call reads a guard byte. */
 #include "dokrawin.h"
 
 #include <stdbool.h>
 #include <stdio.h>
 #include <stdlib.h>
 #include <string.h>
+
+#if defined(__has_include)
+#if __has_include(<valgrind/memcheck.h>)
+#include <valgrind/memcheck.h>
+#endif
+#endif
+#ifndef VALGRIND_MAKE_MEM_NOACCESS
+#define VALGRIND_MAKE_MEM_NOACCESS(at, length) ((void)(at), (void)(length))
+#define VALGRIND_MAKE_MEM_DEFINED(at, length) ((void)(at), (void)(length))
+#endif
 
 enum { GUARD = 64, BUFFER = 65536, DAY_MOST = 64 << 20 };
 
@@ -30,6 +41,14 @@ static void lend(struct piece *p, size_t length)
     memset(p->memory, 0xE7, GUARD);
     memset(bytes_of(p) + length, 0xE7, GUARD);
     memcpy(p->before, bytes_of(p), length);
+    VALGRIND_MAKE_MEM_NOACCESS(p->memory, GUARD);
+    VALGRIND_MAKE_MEM_NOACCESS(bytes_of(p) + length, GUARD);
+}
+
+static void allow_guards(struct piece *p)
+{
+    VALGRIND_MAKE_MEM_DEFINED(p->memory, GUARD);
+    VALGRIND_MAKE_MEM_DEFINED(bytes_of(p) + p->length, GUARD);
 }
 
 static void fail(const char *what, unsigned long call)
@@ -40,6 +59,7 @@ static void fail(const char *what, unsigned long call)
 
 static void look(struct piece *p, const char *name, bool may_change, unsigned long call)
 {
+    allow_guards(p);
     for (size_t i = 0; i < GUARD; i++)
         if (p->memory[i] != 0xE7 || bytes_of(p)[p->length + i] != 0xE7)
             fail(name, call);
