@@ -1,7 +1,7 @@
 /* Plays a recorded day over the C functions and prints a line for each call, as the replay program and the twin do, so that the lines can
    be compared. Everything that is lent stands between guard bytes, and after each call these, and whatever that call may not change, are
    looked at. A day that ends in a broken record ends in `cut at N` or `bad at N`.
-   Run by valgrind (and compiled where its headers are) it also finds out whether a call reads a guard byte. */
+   Compiled with -DWATCHED, which needs valgrind's headers, and run by valgrind, it also finds out whether a call reads a guard byte. */
 #include "dokrawin.h"
 
 #include <stdbool.h>
@@ -9,12 +9,9 @@
 #include <stdlib.h>
 #include <string.h>
 
-#if defined(__has_include)
-#if __has_include(<valgrind/memcheck.h>)
+#ifdef WATCHED
 #include <valgrind/memcheck.h>
-#endif
-#endif
-#ifndef VALGRIND_MAKE_MEM_NOACCESS
+#else
 #define VALGRIND_MAKE_MEM_NOACCESS(at, length) ((void)(at), (void)(length))
 #define VALGRIND_MAKE_MEM_DEFINED(at, length) ((void)(at), (void)(length))
 #endif
