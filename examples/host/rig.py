@@ -77,12 +77,19 @@ class Host:
                 out.write(sheet.build(text.read()))
         self.lines = []
         self.closings = 0
-        self.process = subprocess.Popen(
-            [command, "--port", str(self.port), "--seconds", str(seconds), *words, self.sheet],
-            stdin=subprocess.PIPE, stdout=subprocess.PIPE, stderr=subprocess.STDOUT, text=True)
+        try:
+            self.process = subprocess.Popen(
+                [command, "--port", str(self.port), "--seconds", str(seconds), *words, self.sheet],
+                stdin=subprocess.PIPE, stdout=subprocess.PIPE, stderr=subprocess.STDOUT, text=True)
+        except OSError as fault:
+            raise SystemExit(f"{command} can't be started: {fault.strerror}")
         self.reader = threading.Thread(target=self.read, daemon=True)
         self.reader.start()
-        self.wait_for("farm 1 on 127.0.0.1 port")
+        try:
+            self.wait_for("farm 1 on 127.0.0.1 port")
+        except AssertionError as fault:
+            self.process.kill()
+            raise SystemExit(str(fault))
 
     def read(self):
         for line in self.process.stdout:

@@ -160,8 +160,8 @@ size_t parting_polls(struct pollfd *polls)
 
 static void part_serve(size_t i, short events)
 {
-    static uint8_t dropped[4096];
     if (events & (POLLIN | POLLHUP | POLLERR)) {
+        static uint8_t dropped[4096];
         ssize_t got = recv(parting[i].out.socket, dropped, sizeof dropped, 0);
         if (got == 0 || (got < 0 && !only_later())) {
             part(i);

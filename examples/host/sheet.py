@@ -15,6 +15,7 @@ are numbered from 0 in the order of their lines:
 
 quota: how many testers may be active at a time, 1 to 8. mode: the power mode that is told, 0 not ready, 1 ready, 2 not supported.
 """
+import os
 import struct
 import sys
 
@@ -160,12 +161,33 @@ def show(sheet):
     return "\n".join(lines)
 
 
+def read_text(name):
+    try:
+        with open(name, encoding="utf-8") as text:
+            return text.read()
+    except UnicodeDecodeError as fault:
+        raise Fault(f"{name} is no text in UTF-8 (byte {fault.start})")
+
+
+def store(name, sheet):
+    """All of it or nothing: it is written beside its place and then put there, so that a full disk leaves an older sheet as it was. Nothing
+    is put in the place of a link or a device: these are written to."""
+    is_file = not os.path.islink(name) and (os.path.isfile(name) or not os.path.exists(name))
+    written = name + ".new" if is_file else name
+    try:
+        with open(written, "wb") as out:
+            out.write(sheet)
+        if is_file:
+            os.replace(written, name)
+    except OSError as fault:
+        if is_file and os.path.isfile(written):
+            os.remove(written)
+        raise Fault(f"{name} can't be written: {fault.strerror}")
+
+
 def main(words):
     if len(words) == 3 and words[0] == "make":
-        with open(words[1], encoding="utf-8") as text:
-            sheet = build(text.read())
-        with open(words[2], "wb") as out:
-            out.write(sheet)
+        store(words[2], build(read_text(words[1])))
         return 0
     if len(words) == 2 and words[0] in ("check", "show"):
         with open(words[1], "rb") as file:
@@ -182,6 +204,6 @@ def main(words):
 if __name__ == "__main__":
     try:
         sys.exit(main(sys.argv[1:]))
-    except (Fault, OSError, UnicodeDecodeError) as fault:
+    except (Fault, OSError) as fault:
         print(f"sheet.py: {fault}", file=sys.stderr)
         sys.exit(1)

@@ -132,7 +132,13 @@ def storm(host, seconds, seed):
 
 
 def main(words):
-    seconds, seed = float(words[0]) if words else 10.0, int(words[1]) if len(words) > 1 else 1
+    try:
+        seconds, seed = float(words[0]) if words else 10.0, int(words[1]) if len(words) > 1 else 1
+    except ValueError:
+        seconds, seed = 0.0, 0
+    if not 0 < seconds <= 86400 or len(words) > 3:
+        print(__doc__.strip(), file=sys.stderr)
+        return 2
     host = Host(words[2] if len(words) > 2 else os.path.join(HERE, "run"), int(seconds) + 60)
     try:
         counts = storm(host, seconds, seed)

@@ -165,7 +165,10 @@ def capture(sent):
 
 def read_by_tshark(file):
     """For each frame: (the protocols, what tshark complains of, the fields of DoIP: what is shown and the bytes meant by it)."""
-    done = subprocess.run(["tshark", "-r", file, "--disable-protocol", "uds", "-T", "pdml"], capture_output=True)
+    try:
+        done = subprocess.run(["tshark", "-r", file, "--disable-protocol", "uds", "-T", "pdml"], capture_output=True)
+    except FileNotFoundError:
+        raise Fault("tshark is not installed (Debian: tshark)")
     if done.returncode != 0:
         raise Fault("tshark: " + done.stderr.decode(errors="replace").strip())
     for packet in ElementTree.fromstring(done.stdout).iter("packet"):
@@ -186,6 +189,9 @@ def as_meant(value, shown, taken):
 
 
 def compare(number, wanted, protocols, complaints, fields, counts):
+    if 0 in wanted.get("vin", b""):
+        # a random day's VIN may have a zero byte in it, where a string ends for tshark; all its bytes are compared below
+        complaints = [c for c in complaints if c != "Trailing stray characters"]
     if "doip" not in protocols or "_ws.malformed" in protocols or complaints:
         raise Fault(f"frame {number}: tshark reads {protocols} and complains of {complaints}")
     if set(fields) != set(wanted):

@@ -26,7 +26,13 @@ CALL = re.compile(r"^(callq?|jmp)\s")
 
 def functions(archive):
     """(frame in bytes with its return address, the functions that it calls) of each function."""
-    text = subprocess.run(["llvm-objdump", "-d", "-r", "--no-show-raw-insn", archive], check=True, capture_output=True, text=True).stdout
+    try:
+        done = subprocess.run(["llvm-objdump", "-d", "-r", "--no-show-raw-insn", archive], capture_output=True, text=True)
+    except FileNotFoundError:
+        raise SystemExit("frames.py: the command 'llvm-objdump' is not found (Debian: llvm)")
+    if done.returncode != 0:
+        raise SystemExit(f"frames.py: {archive} can't be read: {done.stderr.strip()}")
+    text = done.stdout
     found, name, last = {}, None, ""
     for line in text.splitlines():
         head = re.match(r"^[0-9a-f]+ <(.+)>:$", line)
@@ -78,6 +84,8 @@ def deepest(found, name, path=()):
 def main(words):
     archive = words[0] if words else os.path.join(ROOT, "target", "staticlib", "libdokrawin.a")
     found = functions(archive)
+    if not any(name.startswith("dokrawin_") for name in found):
+        raise SystemExit(f"frames.py: there is no function of the core in {archive}")
     outside = {c for _, calls in found.values() for c in calls} - set(found)
     print("| call | at most, bytes | deepest way |\n|---|---|---|")
     for name in sorted(n for n in found if n.startswith("dokrawin_")):
