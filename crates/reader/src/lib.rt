@@ -1,6 +1,6 @@
 // The farm sheet is walked by a reader: the lent bytes, and the position at which it stands. It goes from section to section, so
 // each begins where the one before it ends. The borrow checker covers no function that has a reader in it, so those are thin,
-// and each is proved by hand; what is asked of a section's records stands in records.rt, over plain parameters.
+// and each is proved by hand; what is asked of a section's records stands in the crate sheet_records, over plain parameters.
 ghost use mathlib.Core.Path.{_≡_};
 ghost use Prim.Native.Nat.{_+_, _*_, _≤_, _<_, _^_};
 ghost use lib.ListN.{length};
@@ -9,9 +9,6 @@ ghost use Rattle.octets.specs.Says.{Says};
 ghost use Rattle.sheet.specs.Sheet.{headSize, farmSize, knownSize};
 ghost use Rattle.sheet.specs.Rules.{GoodFarms, GoodSection};
 ghost use Rattle.reader.specs.Sections.{GoodSections};
-
-pub mod records; // records.rt: what is asked of a section's records
-
 use sheet::FARM_SIZE;
 use sheet::HEAD_SIZE;
 use sheet::KNOWN_SIZE;
@@ -48,7 +45,7 @@ pub fn farms_here<'a>(r: Reader<'a>, n: usize) -> bool
     requires { ⌜ (r .at ≡ headSize) × (r .at + n * farmSize ≤ length (now (r .bytes))) ⌝ }
     ensures { λ b. ⌜ Says b (GoodFarms (now (r .entry .bytes)) n) ⌝ }
 {
-    records::farms_ok(r.bytes, r.at, n)
+    sheet_records::farms_ok(r.bytes, r.at, n)
 }
 
 // The rules of n testers or targets, of which the first stands at the position.
@@ -56,7 +53,7 @@ pub fn section_here<'a>(r: Reader<'a>, n: usize, farms: usize, most: u8) -> bool
     requires { ⌜ r .at + n * knownSize ≤ length (now (r .bytes)) ⌝ }
     ensures { λ b. ⌜ Says b (GoodSection (now (r .entry .bytes)) (r .entry .at) n farms most) ⌝ }
 {
-    records::section_ok(r.bytes, r.at, n, farms, most)
+    sheet_records::section_ok(r.bytes, r.at, n, farms, most)
 }
 
 pub fn all_three(a: bool, b: bool, c: bool) -> bool

@@ -1,4 +1,4 @@
--- `farms_here` meets its contract: a walk of its MIR, by hand. The reader is taken apart, and `records::farms_ok` is called on its bytes and its position.
+-- `farms_here` meets its contract: a walk of its MIR, by hand. The reader is taken apart, and `sheet_records::farms_ok` is called on its bytes and its position.
 -- All that the walk knows of that function is its contract. A reader may be copied: one copy of what it owns is kept for the exit, and of the other the
 -- bytes go to the callee, beside the lifetime's token, which comes back.
 -- Assumes nothing.
@@ -50,10 +50,10 @@ use Rattle.sheet.specs.Rules.{GoodFarms}
 use Rattle.reader.specs.declared.Reader.{Reader}
 use Rattle.reader.proofs.Reader as T
 use Rattle.reader.proofs.Reader.Laws as T′
-use Rattle.reader.proofs.records.farms_ok as farms-ok
-use Rattle.reader.proofs.records.farms_ok.Symbol as farms-ok-def
-use Rattle.reader.proofs.records.farms_ok.Symbol.{name as #reader·records·farms-ok}
-use Rattle.reader.proofs.records.farms_ok.Met as farms-ok-thm
+use Rattle.sheet_records.proofs.farms_ok as farms-ok
+use Rattle.sheet_records.proofs.farms_ok.Symbol as farms-ok-def
+use Rattle.sheet_records.proofs.farms_ok.Symbol.{name as #sheet-records·farms-ok}
+use Rattle.sheet_records.proofs.farms_ok.Met as farms-ok-thm
 use Rattle.reader.proofs.farms_here.Key.{name as #reader·farms-here}
 use Rattle.reader.proofs.farms_here as farms-here
 use Rattle.reader.proofs.farms_here.Statement as stated
@@ -134,7 +134,7 @@ module _ {M : Type 1} (𝓤 : URA M) (H : Heap 𝓤) (A : Atoms 𝓤) (W : Given
       suffices ! _ (ends-at 𝓤 H A farms-here.ended stayed (farms-here.clauses 𝓤 H A mem run) W (((κ, tt), (q, tt), tt, (d, (n, tt)), vals), tt) u b (tt, (tt, tt)) (tt, (tt, tt))) $ says ! e $
       move ! (1 ∷ []) $ frame ! $ nothing ! $ owned ! usize (Is usize) (uint-makes 𝓤 H A W w64) n _ (refl, fits-n) $ fjoin ! $ move ! (2 ∷ 0 ∷ []) $ fjoin ! $ frame ! $ done !
 
-  module _ (C : Calls 𝓤 H) (Λ : Loops 𝓤 H) (fm : FmC 𝓤 H (W .laws) C) (known : Triple 𝓤 (C #reader·records·farms-ok) (FarmsOk 𝓤 H A mem run)) where
+  module _ (C : Calls 𝓤 H) (Λ : Loops 𝓤 H) (fm : FmC 𝓤 H (W .laws) C) (known : Triple 𝓤 (C #sheet-records·farms-ok) (FarmsOk 𝓤 H A mem run)) where
     walk : Holds (hasTy (T′.mir (named 0)) mach) × WT mach → ent 𝓤 (onEntry 𝓤 H A farms-here.signature (κ, tt) (q, tt) (d, (n, tt)) vals) (WpFn 𝓤 H C Λ code.function (mach ∷ vint w64 n ∷ []) Post)
     walk wt =
         qed W (raw (onEntry 𝓤 H A farms-here.signature (κ, tt) (q, tt) (d, (n, tt)) vals) ∷ []) ∵ enter ! C Λ code.function (mach ∷ vint w64 n ∷ []) _ $
@@ -153,7 +153,7 @@ module _ {M : Type 1} (𝓤 : URA M) (H : Heap 𝓤) (A : Atoms 𝓤) (W : Given
         move ! (11 ∷ 12 ∷ []) $ free1 ! $ move ! (9 ∷ 10 ∷ []) $ free1 ! $ move ! (7 ∷ 8 ∷ []) $ free1 ! $ move ! (5 ∷ 6 ∷ []) $ free1 ! $ move ! (3 ∷ 4 ∷ []) $ free1 ! $ free0 ! $ by ! (exits b u e))))))))))
 
 module _ {M : Type 1} (𝓤 : URA M) (H : Heap 𝓤) (A : Atoms 𝓤) (W : Given 𝓤 H A) (mem : Memory → SProp 𝓤) (run : Routine → Fun 𝓤) where
-  farms-here-walks : (C : Calls 𝓤 H) (Λ : Loops 𝓤 H) → FmC 𝓤 H (W .laws) C → Triple 𝓤 (C #reader·records·farms-ok) (FarmsOk 𝓤 H A mem run)
+  farms-here-walks : (C : Calls 𝓤 H) (Λ : Loops 𝓤 H) → FmC 𝓤 H (W .laws) C → Triple 𝓤 (C #sheet-records·farms-ok) (FarmsOk 𝓤 H A mem run)
       → Walks 𝓤 H A farms-here.ended stayed (WpFn 𝓤 H C Λ code.function) (farms-here.clauses 𝓤 H A mem run)
   farms-here-walks C Λ fm known =
       walked 𝓤 H A farms-here.ended stayed (farms-here.clauses 𝓤 H A mem run) (WpFn 𝓤 H C Λ code.function)
@@ -163,7 +163,7 @@ module _ {M : Type 1} (𝓤 : URA M) (H : Heap 𝓤) (A : Atoms 𝓤) (W : Given
       (λ ok. walk 𝓤 H A W mem run (κs .0) (qs .0) (a .0) (a .1 .0) (are .1 .0 .1) ok C Λ fm known (LL.lawful (T.the-type (namedLft 1 0 tt κs)) (T′.the-laws (namedLft 1 0 tt κs)) 𝓤 H A W .typed (a .0) _ (are .0) .0)))
 
 farms-here-meets : {M : Type 1} (𝓤 : URA M) (H : Heap 𝓤) (A : Atoms 𝓤) (W : Given 𝓤 H A) (mem : Memory → SProp 𝓤) (run : Routine → Fun 𝓤) (𝓣 : Tables 𝓤 H)
-    → Triple 𝓤 (𝓣 .C #reader·records·farms-ok) (FarmsOk 𝓤 H A mem run)
+    → Triple 𝓤 (𝓣 .C #sheet-records·farms-ok) (FarmsOk 𝓤 H A mem run)
     → Meets 𝓤 H A farms-here.signature (WpFn 𝓤 H (𝓣 .C) (𝓣 .Λ) code.function) (farms-here.spec 𝓤 H A mem run)
 farms-here-meets 𝓤 H A W mem run 𝓣 known =
     walk-meets 𝓤 H A farms-here.ended stayed W (goes-none 𝓤 H A W 1 B yes (λ κs x f. refl), (goes-none 𝓤 H A W 1 (λ _. usize) yes (λ κs x f. refl), tt))
@@ -176,4 +176,4 @@ farms-here-spec 𝓤 H 𝓜 𝓖 𝓡 =
     entered 𝓤 H (tripleOf 𝓤 H (𝓖 .A) farms-here.signature (farms-here.spec 𝓤 H (𝓖 .A) (𝓜 .mem) (𝓡 .run)))
     (tables 𝓤 H 𝓜 𝓡 code.env .C) (tables 𝓤 H 𝓜 𝓡 code.env .Λ) #reader·farms-here code.function (code.unfolded 𝓤 H 𝓜 𝓡)
     (farms-here-meets 𝓤 H (𝓖 .A) (givenOf 𝓤 H 𝓜 𝓖) (𝓜 .mem) (𝓡 .run) (tablesOf 𝓤 H 𝓜 (tables 𝓤 H 𝓜 𝓡 code.env))
-    (cited 𝓤 H (FarmsOk 𝓤 H (𝓖 .A) (𝓜 .mem) (𝓡 .run)) 𝓜 𝓡 code.env #reader·records·farms-ok farms-ok-def.routine code.calls-reader·records·farms-ok (farms-ok-thm.met 𝓤 H 𝓜 𝓖 𝓡)))
+    (cited 𝓤 H (FarmsOk 𝓤 H (𝓖 .A) (𝓜 .mem) (𝓡 .run)) 𝓜 𝓡 code.env #sheet-records·farms-ok farms-ok-def.routine code.calls-sheet-records·farms-ok (farms-ok-thm.met 𝓤 H 𝓜 𝓖 𝓡)))

@@ -1,4 +1,4 @@
--- `section_here` meets its contract: a walk of its MIR, by hand. The reader is taken apart, and `records::section_ok` is called on its bytes and its
+-- `section_here` meets its contract: a walk of its MIR, by hand. The reader is taken apart, and `sheet_records::section_ok` is called on its bytes and its
 -- position. All that the walk knows of that function is its contract. A reader may be copied: one copy of what it owns is kept for the exit, and of the
 -- other the bytes go to the callee, beside the lifetime's token, which comes back.
 -- Assumes nothing.
@@ -50,10 +50,10 @@ use Rattle.sheet.specs.Rules.{GoodSection}
 use Rattle.reader.specs.declared.Reader.{Reader}
 use Rattle.reader.proofs.Reader as T
 use Rattle.reader.proofs.Reader.Laws as T′
-use Rattle.reader.proofs.records.section_ok as section-ok
-use Rattle.reader.proofs.records.section_ok.Symbol as section-ok-def
-use Rattle.reader.proofs.records.section_ok.Symbol.{name as #reader·records·section-ok}
-use Rattle.reader.proofs.records.section_ok.Met as section-ok-thm
+use Rattle.sheet_records.proofs.section_ok as section-ok
+use Rattle.sheet_records.proofs.section_ok.Symbol as section-ok-def
+use Rattle.sheet_records.proofs.section_ok.Symbol.{name as #sheet-records·section-ok}
+use Rattle.sheet_records.proofs.section_ok.Met as section-ok-thm
 use Rattle.reader.proofs.section_here.Key.{name as #reader·section-here}
 use Rattle.reader.proofs.section_here as section-here
 use Rattle.reader.proofs.section_here.Statement as stated
@@ -138,7 +138,7 @@ module _ {M : Type 1} (𝓤 : URA M) (H : Heap 𝓤) (A : Atoms 𝓤) (W : Given
       move ! (1 ∷ []) $ frame ! $ nothing ! $ owned ! u8 (Is u8) (uint-makes 𝓤 H A W w8) most _ (refl, fits-most) $ fjoin ! $ owned ! usize (Is usize) (uint-makes 𝓤 H A W w64) farms _ (refl, fits-farms) $ fjoin ! $
       owned ! usize (Is usize) (uint-makes 𝓤 H A W w64) n _ (refl, fits-n) $ fjoin ! $ move ! (2 ∷ 0 ∷ []) $ fjoin ! $ frame ! $ done !
 
-  module _ (C : Calls 𝓤 H) (Λ : Loops 𝓤 H) (fm : FmC 𝓤 H (W .laws) C) (known : Triple 𝓤 (C #reader·records·section-ok) (SectionOk 𝓤 H A mem run)) where
+  module _ (C : Calls 𝓤 H) (Λ : Loops 𝓤 H) (fm : FmC 𝓤 H (W .laws) C) (known : Triple 𝓤 (C #sheet-records·section-ok) (SectionOk 𝓤 H A mem run)) where
     walk : Holds (hasTy (T′.mir (named 0)) mach) × WT mach
         → ent 𝓤 (onEntry 𝓤 H A section-here.signature (κ, tt) (q, tt) (d, (n, (farms, (most, tt)))) vals) (WpFn 𝓤 H C Λ code.function (mach ∷ vint w64 n ∷ vint w64 farms ∷ vint w8 most ∷ []) Post)
     walk wt =
@@ -160,7 +160,7 @@ module _ {M : Type 1} (𝓤 : URA M) (H : Heap 𝓤) (A : Atoms 𝓤) (W : Given
         move ! (15 ∷ 16 ∷ []) $ free1 ! $ move ! (13 ∷ 14 ∷ []) $ free1 ! $ move ! (11 ∷ 12 ∷ []) $ free1 ! $ move ! (9 ∷ 10 ∷ []) $ free1 ! $ move ! (7 ∷ 8 ∷ []) $ free1 ! $ move ! (5 ∷ 6 ∷ []) $ free1 ! $ move ! (3 ∷ 4 ∷ []) $ free1 ! $ free0 ! $ by ! (exits b u e))))))))))))
 
 module _ {M : Type 1} (𝓤 : URA M) (H : Heap 𝓤) (A : Atoms 𝓤) (W : Given 𝓤 H A) (mem : Memory → SProp 𝓤) (run : Routine → Fun 𝓤) where
-  section-here-walks : (C : Calls 𝓤 H) (Λ : Loops 𝓤 H) → FmC 𝓤 H (W .laws) C → Triple 𝓤 (C #reader·records·section-ok) (SectionOk 𝓤 H A mem run)
+  section-here-walks : (C : Calls 𝓤 H) (Λ : Loops 𝓤 H) → FmC 𝓤 H (W .laws) C → Triple 𝓤 (C #sheet-records·section-ok) (SectionOk 𝓤 H A mem run)
       → Walks 𝓤 H A section-here.ended stayed (WpFn 𝓤 H C Λ code.function) (section-here.clauses 𝓤 H A mem run)
   section-here-walks C Λ fm known =
       walked 𝓤 H A section-here.ended stayed (section-here.clauses 𝓤 H A mem run) (WpFn 𝓤 H C Λ code.function)
@@ -171,7 +171,7 @@ module _ {M : Type 1} (𝓤 : URA M) (H : Heap 𝓤) (A : Atoms 𝓤) (W : Given
       (LL.lawful (T.the-type (namedLft 1 0 tt κs)) (T′.the-laws (namedLft 1 0 tt κs)) 𝓤 H A W .typed (a .0) _ (are .0) .0)))
 
 section-here-meets : {M : Type 1} (𝓤 : URA M) (H : Heap 𝓤) (A : Atoms 𝓤) (W : Given 𝓤 H A) (mem : Memory → SProp 𝓤) (run : Routine → Fun 𝓤) (𝓣 : Tables 𝓤 H)
-    → Triple 𝓤 (𝓣 .C #reader·records·section-ok) (SectionOk 𝓤 H A mem run)
+    → Triple 𝓤 (𝓣 .C #sheet-records·section-ok) (SectionOk 𝓤 H A mem run)
     → Meets 𝓤 H A section-here.signature (WpFn 𝓤 H (𝓣 .C) (𝓣 .Λ) code.function) (section-here.spec 𝓤 H A mem run)
 section-here-meets 𝓤 H A W mem run 𝓣 known =
     walk-meets 𝓤 H A section-here.ended stayed W
@@ -185,4 +185,4 @@ section-here-spec 𝓤 H 𝓜 𝓖 𝓡 =
     entered 𝓤 H (tripleOf 𝓤 H (𝓖 .A) section-here.signature (section-here.spec 𝓤 H (𝓖 .A) (𝓜 .mem) (𝓡 .run)))
     (tables 𝓤 H 𝓜 𝓡 code.env .C) (tables 𝓤 H 𝓜 𝓡 code.env .Λ) #reader·section-here code.function (code.unfolded 𝓤 H 𝓜 𝓡)
     (section-here-meets 𝓤 H (𝓖 .A) (givenOf 𝓤 H 𝓜 𝓖) (𝓜 .mem) (𝓡 .run) (tablesOf 𝓤 H 𝓜 (tables 𝓤 H 𝓜 𝓡 code.env))
-    (cited 𝓤 H (SectionOk 𝓤 H (𝓖 .A) (𝓜 .mem) (𝓡 .run)) 𝓜 𝓡 code.env #reader·records·section-ok section-ok-def.routine code.calls-reader·records·section-ok (section-ok-thm.met 𝓤 H 𝓜 𝓖 𝓡)))
+    (cited 𝓤 H (SectionOk 𝓤 H (𝓖 .A) (𝓜 .mem) (𝓡 .run)) 𝓜 𝓡 code.env #sheet-records·section-ok section-ok-def.routine code.calls-sheet-records·section-ok (section-ok-thm.met 𝓤 H 𝓜 𝓖 𝓡)))

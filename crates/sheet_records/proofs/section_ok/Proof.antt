@@ -12,9 +12,9 @@ use Rattle.octets.proofs.SaysLaws.{says-yes, says-no}
 use Rattle.sheet.specs.Sheet.{knownSize, addressAt, farmOfAt, flagAt}
 use Rattle.sheet.specs.Test.{addressBefore}
 use Rattle.sheet.proofs.RulesLaws.{PassedTo, section-good, section-passed}
-use Rattle.reader.proofs.RecordLaws.{same-byte, same-number}
-use Rattle.reader.proofs.records.section_ok.Statement.{statement}
-use Rattle.reader.proofs.records.section_ok.Tie as tie
+use Rattle.sheet_records.proofs.RecordLaws.{same-byte, same-number}
+use Rattle.sheet_records.proofs.section_ok.Statement.{statement}
+use Rattle.sheet_records.proofs.section_ok.Tie as tie
 
 abbrev Inv-loop : tie.InvT-loop
 Inv-loop s at n farms most last₀ p₀ i₀ last p i = (i ≤ n) × (p ≡ at + i * knownSize) × (last ≡ addressBefore s at i) × PassedTo s at farms most i

@@ -13,9 +13,9 @@ use Rattle.sheet.specs.Rules.{GoodFarm, GoodFarms}
 use Rattle.sheet.specs.Rows.{firstRow}
 use Rattle.octets.proofs.SaysLaws.{says-yes, says-no}
 use Rattle.sheet.proofs.RowsLaws.{rows-mono}
-use Rattle.reader.proofs.RecordLaws.{same-byte, same-number}
-use Rattle.reader.proofs.records.farms_ok.Statement.{statement}
-use Rattle.reader.proofs.records.farms_ok.Tie as tie
+use Rattle.sheet_records.proofs.RecordLaws.{same-byte, same-number}
+use Rattle.sheet_records.proofs.farms_ok.Statement.{statement}
+use Rattle.sheet_records.proofs.farms_ok.Tie as tie
 
 abbrev Inv-loop : tie.InvT-loop
 Inv-loop s at n left₀ p₀ i₀ left p i = (i ≤ n) × (p ≡ farmAt i) × (left + firstRow s i ≡ mostRows) × ((f : ℕ) → f < i → GoodFarm s f)
