@@ -2,12 +2,7 @@
    be compared. Everything that is lent stands between guard bytes, and after each call these, and whatever that call may not change, are
    looked at. A day that ends in a broken record ends in `cut at N` or `bad at N`.
    Compiled with -DWATCHED, which needs valgrind's headers, and run by valgrind, it also finds out whether a call reads a guard byte. */
-#include "dokrawin.h"
-
-#include <stdbool.h>
-#include <stdio.h>
-#include <stdlib.h>
-#include <string.h>
+#include "../day/records.h"
 
 #ifdef WATCHED
 #include <valgrind/memcheck.h>
@@ -16,7 +11,7 @@
 #define VALGRIND_MAKE_MEM_DEFINED(at, length) ((void)(at), (void)(length))
 #endif
 
-enum { GUARD = 64, BUFFER = 65536, DAY_MOST = 64 << 20 };
+enum { GUARD = 64, BUFFER = DAY_BUFFER };
 
 /* A piece of memory to be lent: guard bytes, then the bytes, then guard bytes right behind the last one. */
 struct piece {
@@ -145,96 +140,35 @@ static void serve(int kind, const uint8_t *fields, size_t length, unsigned long 
 
 /* ---- the day ---- */
 
-static bool good_record(int kind, size_t fields)
+static void lend_record(const struct day_record *r)
 {
-    static const size_t exactly[11] = {0, 0, 1, 0, 1, 1, 0, 0, 0, 8, 0}, least[11] = {0, 0, 1, 1, 1, 1, 0, 1, 5, 8, 2};
-    static const bool open_ended[11] = {true, false, false, true, false, false, false, true, true, false, true};
-    return kind <= 10 && fields >= least[kind] && (open_ended[kind] || fields == exactly[kind]);
-}
-
-static size_t u32(const uint8_t *b)
-{
-    return dokrawin_u16(b) * 65536 + dokrawin_u16(b + 2);
-}
-
-/* Gives false for a record that is bad after all. */
-static bool lend_record(int kind, const uint8_t *f, size_t length)
-{
-    if (kind == 0) {
-        sheet.length = length;
-        memcpy(bytes_of(&sheet), f, length);
-    } else if (kind == 9) {
-        if (u32(f) > BUFFER || u32(f + 4) > BUFFER)
-            return false;
-        output_length = u32(f);
-        assembling_length = u32(f + 4);
+    if (r->kind == DAY_SHEET) {
+        sheet.length = r->length;
+        memcpy(bytes_of(&sheet), r->fields, r->length);
+    } else if (r->kind == DAY_ROOMS) {
+        output_length = day_u32(r->fields);
+        assembling_length = day_u32(r->fields + 4);
     } else {
-        uint8_t *bytes = bytes_of(&table);
-        for (size_t i = 2, place = dokrawin_u16(f); i < length && place < DOKRAWIN_TABLE; i++, place++)
-            bytes[place] = f[i];
+        day_damage(r, bytes_of(&table));
     }
-    return true;
-}
-
-static void print_meters(void)
-{
-    /* a good sheet is one that a start on a table of no account is not refused for */
-    static uint8_t t[DOKRAWIN_TABLE], o[DOKRAWIN_OUTPUT], a[DOKRAWIN_ASSEMBLING];
-    if (dokrawin_start(bytes_of(&sheet), sheet.length, t, o, sizeof o, a, sizeof a).number != DOKRAWIN_DONE)
-        return;
-    for (size_t farm = 0; farm < dokrawin_u16(bytes_of(&sheet)); farm++) {
-        dokrawin_farm_meters m = dokrawin_meters(bytes_of(&table), (uint8_t)farm);
-        printf("farm %zu taken %u finished %u lost %u\n", farm, m.taken, m.finished, m.lost);
-    }
-}
-
-static void play(const uint8_t *day, size_t size)
-{
-    unsigned long calls = 0;
-    size_t p = 0;
-    const char *end = "end";
-    while (p < size) {
-        size_t n = p + 2 <= size ? dokrawin_u16(day + p) : 1;
-        end = n < 1 || n > 32767 ? "bad" : p + 2 > size || p + 2 + n > size ? "cut" : "end";
-        if (end[0] != 'e')
-            break;
-        int kind = day[p + 2];
-        const uint8_t *fields = day + p + 3;
-        bool is_call = kind >= 1 && kind <= 8;
-        if (!good_record(kind, n - 1) || (!is_call && !lend_record(kind, fields, n - 1))) {
-            end = "bad";
-            break;
-        }
-        if (is_call)
-            serve(kind, fields, n - 1, ++calls);
-        p += 2 + n;
-    }
-    print_meters();
-    if (end[0] == 'e')
-        printf("end %lu\n", calls);
-    else
-        printf("%s at %zu\n", end, p);
 }
 
 int main(int count, char **words)
 {
-    static uint8_t day[DAY_MOST];
+    struct day day;
+    struct day_record r;
     if (count != 2) {
         fprintf(stderr, "usage: day FILE\n");
         return 2;
     }
-    FILE *f = fopen(words[1], "rb");
-    if (f == NULL) {
-        fprintf(stderr, "day: %s can't be opened\n", words[1]);
+    if (!day_read(&day, "day", words[1]))
         return 2;
-    }
-    size_t size = fread(day, 1, sizeof day, f);
-    bool whole = feof(f) && !ferror(f);
-    fclose(f);
-    if (!whole) {
-        fprintf(stderr, "day: %s can't be read, or is too long\n", words[1]);
-        return 2;
-    }
-    play(day, size);
+    while (day_next(&day, &r))
+        if (day_is_call(r.kind))
+            serve(r.kind, r.fields, r.length, day.calls);
+        else
+            lend_record(&r);
+    day_print_end(&day, bytes_of(&sheet), sheet.length, bytes_of(&table));
+    free(day.bytes);
     return fflush(stdout) == 0 ? 0 : 2;
 }

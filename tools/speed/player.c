@@ -4,25 +4,20 @@
      player DAY            the lines
      player DAY kinds      in place of the lines: how many calls of each kind there are, how many are done, and their time. A call
                            that took over 20 microseconds was interrupted by other work and is left out. */
-#include "dokrawin.h"
+#include "../day/records.h"
 
-#include <errno.h>
-#include <stdbool.h>
-#include <stdio.h>
-#include <stdlib.h>
-#include <string.h>
 #include <time.h>
 
-enum { BUFFER = 65536, KINDS = 9, RECORDS = 11, INTERRUPTED = 20000 };
+enum { KINDS = DAY_CONTROLLER + 1, INTERRUPTED = 20000 };
 
-static uint8_t sheet[32768], table[DOKRAWIN_TABLE], output[BUFFER], assembling[BUFFER];
+static uint8_t sheet[32768], table[DOKRAWIN_TABLE], output[DAY_BUFFER], assembling[DAY_BUFFER];
 static size_t sheet_length, output_length = DOKRAWIN_OUTPUT, assembling_length = DOKRAWIN_ASSEMBLING;
 
 #define LENT sheet, sheet_length, table, output, output_length, assembling, assembling_length
 
 /* ---- lines ---- */
 
-static char lines[BUFFER];
+static char lines[DAY_BUFFER];
 static size_t filled;
 static bool unwritten;
 
@@ -135,112 +130,49 @@ static void print_kinds(void)
 
 /* ---- the day ---- */
 
-static size_t u32(const uint8_t *b)
+/* A sheet, lengths of buffers or a damage. */
+static void lend(const struct day_record *r)
 {
-    return dokrawin_u16(b) * 65536 + dokrawin_u16(b + 2);
-}
-
-/* A sheet, lengths of buffers or a damage. Gives false for a bad record. */
-static bool lend(int kind, const uint8_t *f, size_t length)
-{
-    if (kind == 0) {
-        sheet_length = length;
-        memcpy(sheet, f, length);
-    } else if (kind == 9) {
-        if (u32(f) > BUFFER || u32(f + 4) > BUFFER)
-            return false;
-        output_length = u32(f);
-        assembling_length = u32(f + 4);
+    if (r->kind == DAY_SHEET) {
+        sheet_length = r->length;
+        memcpy(sheet, r->fields, r->length);
+    } else if (r->kind == DAY_ROOMS) {
+        output_length = day_u32(r->fields);
+        assembling_length = day_u32(r->fields + 4);
     } else {
-        for (size_t i = 2, place = dokrawin_u16(f); i < length && place < DOKRAWIN_TABLE; i++, place++)
-            table[place] = f[i];
-    }
-    return true;
-}
-
-static bool good_record(int kind, size_t fields)
-{
-    static const size_t least[RECORDS] = {0, 0, 1, 1, 1, 1, 0, 1, 5, 8, 2};
-    static const bool open_ended[RECORDS] = {[0] = true, [3] = true, [7] = true, [8] = true, [10] = true};
-    return kind < RECORDS && fields >= least[kind] && (open_ended[kind] || fields == least[kind]);
-}
-
-static void print_meters(void)
-{
-    static uint8_t fresh[DOKRAWIN_TABLE], o[DOKRAWIN_OUTPUT], m[DOKRAWIN_ASSEMBLING];
-    if (dokrawin_start(sheet, sheet_length, fresh, o, sizeof o, m, sizeof m).number != DOKRAWIN_DONE)
-        return; /* no good sheet, no farms */
-    for (size_t farm = 0; farm < dokrawin_u16(sheet); farm++) {
-        dokrawin_farm_meters meters = dokrawin_meters(table, (uint8_t)farm);
-        printf("farm %zu taken %u finished %u lost %u\n", farm, (unsigned)meters.taken, (unsigned)meters.finished, (unsigned)meters.lost);
+        day_damage(r, table);
     }
 }
 
-static void play(const uint8_t *day, size_t size, bool kinds)
+static void play(struct day *day, bool kinds)
 {
-    unsigned long calls = 0;
-    size_t at = 0;
-    const char *end = "end";
-    while (at < size) {
-        size_t n = at + 2 <= size ? dokrawin_u16(day + at) : 1;
-        end = n < 1 || n > 32767 ? "bad" : at + 2 > size || at + 2 + n > size ? "cut" : "end";
-        if (end[0] != 'e')
-            break;
-        int kind = day[at + 2];
-        const uint8_t *fields = day + at + 3;
-        bool is_call = kind >= 1 && kind <= 8;
-        if (!good_record(kind, n - 1) || (!is_call && !lend(kind, fields, n - 1))) {
-            end = "bad";
-            break;
-        }
-        calls += is_call;
-        if (is_call && kinds)
-            time_call(kind, fields, n - 1);
-        else if (is_call)
-            put_line(make_call(kind, fields, n - 1));
-        at += 2 + n;
+    struct day_record r;
+    while (day_next(day, &r)) {
+        if (!day_is_call(r.kind))
+            lend(&r);
+        else if (kinds)
+            time_call(r.kind, r.fields, r.length);
+        else
+            put_line(make_call(r.kind, r.fields, r.length));
     }
     flush();
-    if (kinds) {
+    if (kinds)
         print_kinds();
-        return;
-    }
-    print_meters();
-    if (end[0] == 'e')
-        printf("end %lu\n", calls);
     else
-        printf("%s at %zu\n", end, at);
-}
-
-/* The whole file. NULL after saying what is wrong. */
-static uint8_t *read_day(const char *name, size_t *size)
-{
-    FILE *f = fopen(name, "rb");
-    long length = f != NULL && fseek(f, 0, SEEK_END) == 0 ? ftell(f) : -1;
-    uint8_t *day = length >= 0 ? malloc((size_t)length + 1) : NULL;
-    if (day == NULL || fseek(f, 0, SEEK_SET) != 0 || fread(day, 1, (size_t)length, f) != (size_t)length) {
-        fprintf(stderr, "player: %s: %s\n", name, errno != 0 ? strerror(errno) : "it can't be read");
-        free(day);
-        day = NULL;
-    }
-    if (f != NULL)
-        fclose(f);
-    *size = (size_t)length;
-    return day;
+        day_print_end(day, sheet, sheet_length, table);
 }
 
 int main(int count, char **words)
 {
-    size_t size;
+    struct day day;
     if (count < 2 || count > 3 || (count == 3 && strcmp(words[2], "kinds") != 0)) {
         fprintf(stderr, "usage: player DAY [kinds]\n");
         return 2;
     }
-    uint8_t *day = read_day(words[1], &size);
-    if (day == NULL)
+    if (!day_read(&day, "player", words[1]))
         return 1;
-    play(day, size, count == 3);
-    free(day);
+    play(&day, count == 3);
+    free(day.bytes);
     if (unwritten || fflush(stdout) != 0) {
         fprintf(stderr, "player: the lines can't be written\n");
         return 1;
