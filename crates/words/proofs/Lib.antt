@@ -1,1 +1,4 @@
 pub mod SaidLaws
+pub mod LineLaws
+pub mod BookLaws
+pub mod FillLaws

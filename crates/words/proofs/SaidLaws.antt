@@ -70,3 +70,14 @@ letters-turn bytes out out₁ at j x e h fits k =
 -- the same text in other words
 pub said-is : {t u out out₁ : List ℕ} {at r : ℕ} → t ≡ u → Said t out out₁ at r → Said u out out₁ at r
 said-is {t} {u} {out} {out₁} {at} {r} e w = subst (λ (x : List ℕ). Said x out out₁ at r) e w
+
+-- what was put at the start of some room that is enough
+pub said-start : {t out out₁ : List ℕ} {r : ℕ} → Said t out out₁ 0 r → length t ≤ length out → (take r out₁ ≡ t) × (r ≤ length out₁)
+said-start {t} {out} {out₁} {r} w h =
+    let v = w .wrote (omega arith) in
+    let e : r ≡ length t = omega (arith, v .after) in
+    (ap (take r) (v .put ∙ put-start out t) ∙ take-at t (drop (length t) out) r (sym e), omega (arith, e, w .kept, h))
+
+-- no text at all
+pub said-nothing : {out : List ℕ} {at : ℕ} → Said [] out out at at
+said-nothing {out} {at} = record { wrote = λ h. record { put = putAt-none out at; after = omega arith }; inside = λ h. h; kept = refl }

@@ -1,4 +1,4 @@
--- The names of document 01's numbers: refusals, types, codes.
+-- The names of document 01's numbers: refusals and codes.
 -- Assumes nothing: these are definitions.
 use Prim.Native.Nat.{ℕ}
 use Prim.Native.String.{String}
@@ -38,24 +38,6 @@ refusals =
 
 unfoldable pub refusalName : ℕ → List ℕ
 refusalName = nameIn refusals "a number without a meaning"
-
--- What the core sends. "A NACK is type 0000", "answer 0004", "Response 0006", "sends 0007 (empty)", "answer 4002", "4004 with the mode",
--- "A controller message goes out as 8001", "8003 with 02", "else 8002 with 00"; the names are those of ISO 13400-2.
-abbrev pub types : List Line
-types =
-    0x0000 is "header negative acknowledge"
-    ∷ 0x0004 is "vehicle identification response"
-    ∷ 0x0006 is "routing activation response"
-    ∷ 0x0007 is "alive check request"
-    ∷ 0x4002 is "entity status response"
-    ∷ 0x4004 is "power mode response"
-    ∷ 0x8001 is "diagnostic message"
-    ∷ 0x8002 is "diagnostic positive acknowledge"
-    ∷ 0x8003 is "diagnostic negative acknowledge"
-    ∷ []
-
-unfoldable pub typeName : ℕ → List ℕ
-typeName = nameIn types "a type that the core never sends"
 
 -- "not 03 FC: NACK 00", "type unknown on this port: NACK 01", "length over 2,048: NACK 02", "length wrong for the type: NACK 04"
 abbrev pub faults : List Line

@@ -1,154 +1,121 @@
-// The names of document 01's numbers, as specs/Names.antt has them.
-ghost use Rattle.words.specs.Said.{Said};
-ghost use Rattle.words.specs.Names.{refusalName, typeName, faultName, activationName, diagnosticName, modeName};
-use crate::put::words;
+// The phrases for document 01's numbers, as specs/Names.antt has them. Each function answers the phrase's number.
+ghost use mathlib.Core.Path.{_≡_};
+ghost use Rattle.words.specs.Book.{phrase};
+ghost use Rattle.words.specs.Names.{refusalName, faultName, activationName, diagnosticName, modeName};
+use crate::book;
 
 // A refusal's number.
-pub fn refusal(out: &mut [u8], at: usize, n: u8) -> usize
-    ensures { λ r. ⌜ Said (refusalName n) (now (out .entry)) (now (out .exit)) at r ⌝ }
+pub fn refusal(n: u8) -> usize
+    ensures { λ r. ⌜ phrase r ≡ refusalName n ⌝ }
 {
     if n == 1 {
-        return words(out, at, b"the farm sheet breaks a rule");
+        return book::REFUSED_1;
     }
     if n == 2 {
-        return words(out, at, b"the output buffer has under 4096 bytes");
+        return book::REFUSED_2;
     }
     if n == 3 {
-        return words(out, at, b"the assembling buffer has not 32768 bytes");
+        return book::REFUSED_3;
     }
     if n == 4 {
-        return words(out, at, b"the table breaks a rule");
+        return book::REFUSED_4;
     }
     if n == 5 {
-        return words(out, at, b"the sheet has no such farm");
+        return book::REFUSED_5;
     }
     if n == 6 {
-        return words(out, at, b"the row is not open");
+        return book::REFUSED_6;
     }
     if n == 7 {
-        return words(out, at, b"the row waits for its activation");
+        return book::REFUSED_7;
     }
     if n == 8 {
-        return words(out, at, b"the farm has no free row");
+        return book::REFUSED_8;
     }
     if n == 9 {
-        return words(out, at, b"no user data, or over 2044 bytes");
+        return book::REFUSED_9;
     }
     if n == 10 {
-        return words(out, at, b"not a controller of the farm, or the tester is not active there");
+        return book::REFUSED_10;
     }
-    words(out, at, b"a number without a meaning")
+    book::REFUSED_OTHER
 }
 
-// The type of a message.
-pub fn message_type(out: &mut [u8], at: usize, kind: u16) -> usize
-    ensures { λ r. ⌜ Said (typeName kind) (now (out .entry)) (now (out .exit)) at r ⌝ }
-{
-    if kind == 0x0000 {
-        return words(out, at, b"header negative acknowledge");
-    }
-    if kind == 0x0004 {
-        return words(out, at, b"vehicle identification response");
-    }
-    if kind == 0x0006 {
-        return words(out, at, b"routing activation response");
-    }
-    if kind == 0x0007 {
-        return words(out, at, b"alive check request");
-    }
-    if kind == 0x4002 {
-        return words(out, at, b"entity status response");
-    }
-    if kind == 0x4004 {
-        return words(out, at, b"power mode response");
-    }
-    if kind == 0x8001 {
-        return words(out, at, b"diagnostic message");
-    }
-    if kind == 0x8002 {
-        return words(out, at, b"diagnostic positive acknowledge");
-    }
-    if kind == 0x8003 {
-        return words(out, at, b"diagnostic negative acknowledge");
-    }
-    words(out, at, b"a type that the core never sends")
-}
-
-// The code of a NACK, 0000.
-pub fn fault(out: &mut [u8], at: usize, code: u8) -> usize
-    ensures { λ r. ⌜ Said (faultName code) (now (out .entry)) (now (out .exit)) at r ⌝ }
+// The code of a header negative acknowledge, 0000.
+pub fn fault(code: u8) -> usize
+    ensures { λ r. ⌜ phrase r ≡ faultName code ⌝ }
 {
     if code == 0x00 {
-        return words(out, at, b"the header does not begin as it must");
+        return book::FAULT_PATTERN;
     }
     if code == 0x01 {
-        return words(out, at, b"the type is unknown here");
+        return book::FAULT_TYPE;
     }
     if code == 0x02 {
-        return words(out, at, b"the message is too long");
+        return book::FAULT_LONG;
     }
     if code == 0x04 {
-        return words(out, at, b"the length is wrong for the type");
+        return book::FAULT_LENGTH;
     }
-    words(out, at, b"an unknown code")
+    book::UNKNOWN_CODE
 }
 
 // The code of a routing activation response, 0006.
-pub fn activation(out: &mut [u8], at: usize, code: u8) -> usize
-    ensures { λ r. ⌜ Said (activationName code) (now (out .entry)) (now (out .exit)) at r ⌝ }
+pub fn activation(code: u8) -> usize
+    ensures { λ r. ⌜ phrase r ≡ activationName code ⌝ }
 {
     if code == 0x00 {
-        return words(out, at, b"not a tester of this farm");
+        return book::NOT_OF_FARM;
     }
     if code == 0x01 {
-        return words(out, at, b"all places of the farm are in use");
+        return book::ALL_IN_USE;
     }
     if code == 0x02 {
-        return words(out, at, b"the row is active for another tester");
+        return book::ROW_TAKEN;
     }
     if code == 0x03 {
-        return words(out, at, b"the tester is active on another row");
+        return book::TESTER_ELSEWHERE;
     }
     if code == 0x06 {
-        return words(out, at, b"the activation type is not supported");
+        return book::TYPE_NOT_SUPPORTED;
     }
     if code == 0x10 {
-        return words(out, at, b"activated");
+        return book::ACTIVATED;
     }
-    words(out, at, b"an unknown code")
+    book::UNKNOWN_CODE
 }
 
 // The code of an answer to a diagnostic message, 8002 or 8003.
-pub fn diagnostic(out: &mut [u8], at: usize, code: u8) -> usize
-    ensures { λ r. ⌜ Said (diagnosticName code) (now (out .entry)) (now (out .exit)) at r ⌝ }
+pub fn diagnostic(code: u8) -> usize
+    ensures { λ r. ⌜ phrase r ≡ diagnosticName code ⌝ }
 {
     if code == 0x00 {
-        return words(out, at, b"accepted");
+        return book::ACCEPTED;
     }
     if code == 0x02 {
-        return words(out, at, b"the sender is not active on this row");
+        return book::SENDER_NOT_ACTIVE;
     }
     if code == 0x03 {
-        return words(out, at, b"not a controller of this farm");
+        return book::NOT_A_CONTROLLER;
     }
     if code == 0x06 {
-        return words(out, at, b"the controller is not reachable");
+        return book::NOT_REACHABLE;
     }
-    words(out, at, b"an unknown code")
+    book::UNKNOWN_CODE
 }
 
-// The power mode.
-pub fn mode(out: &mut [u8], at: usize, mode: u8) -> usize
-    ensures { λ r. ⌜ Said (modeName mode) (now (out .entry)) (now (out .exit)) at r ⌝ }
+// The power mode, of 4004.
+pub fn mode(n: u8) -> usize
+    ensures { λ r. ⌜ phrase r ≡ modeName n ⌝ }
 {
-    if mode == 0 {
-        return words(out, at, b"not ready");
+    if n == 0 {
+        return book::NOT_READY;
     }
-    if mode == 1 {
-        return words(out, at, b"ready");
+    if n == 1 {
+        return book::READY;
     }
-    if mode == 2 {
-        return words(out, at, b"not supported");
+    if n == 2 {
+        return book::NOT_SUPPORTED;
     }
-    words(out, at, b"an unknown mode")
+    book::UNKNOWN_MODE
 }

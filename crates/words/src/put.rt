@@ -1,5 +1,5 @@
 // Words, numbers and bytes, each put where it has room. Each function answers the place after what it put.
-ghost use mathlib.Core.List.{_++_};
+ghost use mathlib.Core.List.{[], _∷_, _++_};
 ghost use mathlib.Core.Path.{_≡_};
 ghost use Prim.Native.Nat.{_+_, _≤_};
 ghost use lib.ListN.{length};
@@ -56,12 +56,20 @@ pub fn address(out: &mut [u8], at: usize, x: u16) -> usize
     bytes(out, at, &b)
 }
 
-// Words, and a number after them.
-pub fn words_number(out: &mut [u8], at: usize, said: &[u8], n: usize) -> usize
-    ensures { λ r. ⌜ Said (now (said .entry) ++ decimal n) (now (out .entry)) (now (out .exit)) at r ⌝ }
+// A code in hexadecimal.
+pub fn code(out: &mut [u8], at: usize, c: u8) -> usize
+    ensures { λ r. ⌜ Said (hex (c ∷ [])) (now (out .entry)) (now (out .exit)) at r ⌝ }
 {
-    let a = words(out, at, said);
-    number(out, a, n)
+    let b = [c];
+    bytes(out, at, &b)
+}
+
+// A character by itself.
+pub fn letter(out: &mut [u8], at: usize, c: u8) -> usize
+    ensures { λ r. ⌜ Said (c ∷ []) (now (out .entry)) (now (out .exit)) at r ⌝ }
+{
+    let b = [c];
+    words(out, at, &b)
 }
 
 // Words, and bytes after them.
