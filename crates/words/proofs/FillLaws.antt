@@ -72,3 +72,28 @@ fill-turn t ts i h =
 pub holes-turn : (t : List ℕ) (i : ℕ) → i < length t → afterOne (getD t i 0) (holes (take i t)) ≡ holes (take (i + 1) t)
 holes-turn t i h =
     sym (holes-one (take i t) (getD t i 0)) ∙ ap holes (sym (take-suc t i 0 h) ∙ ap (λ (n : ℕ). take n t) (sym (add-one i)))
+
+-- a text more that is empty makes no difference
+pub fill-blank : (t : List ℕ) (ts : List (List ℕ)) → fill t (ts ++ ([] ∷ [])) ≡ fill t ts
+unfolding fill
+fill-blank [] ts = refl
+fill-blank (c ∷ t) ts = by ts (eqb c 37) (fill-blank t)
+  where
+    by : (us : List (List ℕ)) (b : Bool) → ((vs : List (List ℕ)) → fill t (vs ++ ([] ∷ [])) ≡ fill t vs)
+        → pick b (getD (us ++ ([] ∷ [])) 0 [] ++ fill t (drop 1 (us ++ ([] ∷ [])))) (c ∷ fill t (us ++ ([] ∷ [])))
+        ≡ pick b (getD us 0 [] ++ fill t (drop 1 us)) (c ∷ fill t us)
+    by [] true e = refl
+    by (u ∷ us) true e = ap (λ (x : List ℕ). u ++ x) (e us)
+    by [] false e = ap (λ (x : List ℕ). c ∷ x) (e [])
+    by (u ∷ us) false e = ap (λ (x : List ℕ). c ∷ x) (e (u ∷ us))
+
+-- a text without a hole is itself
+pub fill-none : (t : List ℕ) (ts : List (List ℕ)) → holes t ≡ 0 → fill t ts ≡ t
+unfolding fill holes
+fill-none [] ts h = refl
+fill-none (c ∷ t) ts h = by (eqb c 37) h (fill-none t ts)
+  where
+    by : (b : Bool) → pick b (suc (holes t)) (holes t) ≡ 0 → (holes t ≡ 0 → fill t ts ≡ t)
+        → pick b (getD ts 0 [] ++ fill t (drop 1 ts)) (c ∷ fill t ts) ≡ c ∷ t
+    by true k e = absurd (omega (arith, k))
+    by false k e = ap (λ (x : List ℕ). c ∷ x) (e k)

@@ -81,7 +81,7 @@ book =
     ∷ "handed on: from tester % to controller %, user data % bytes"
     ∷ "handed on a payload that can not be read"
     ∷ "an entry of an unknown kind, %"
-    ∷ "an entry that can not be read"
+    ∷ "    an entry that can not be read"
     ∷ "    row %: "
     ∷ "    datagram: "
     ∷ "call %: "

@@ -190,7 +190,7 @@ closed\n\
 handed on: from tester % to controller %, user data % bytes\n\
 handed on a payload that can not be read\n\
 an entry of an unknown kind, %\n\
-an entry that can not be read\n\
+\x20\x20\x20\x20an entry that can not be read\n\
 \x20\x20\x20\x20row %: \n\
 \x20\x20\x20\x20datagram: \n\
 call %: \n\
