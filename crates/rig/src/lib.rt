@@ -4,13 +4,14 @@ ghost use Prim.Native.Nat.{_≤_};
 ghost use lib.ListN.{length};
 ghost use Rattle.day.specs.Next.{RoomsFit};
 ghost use Rattle.lent.specs.Served.{memory, Served};
-ghost use Rattle.replay.specs.Played.{played};
-ghost use Rattle.replay.specs.Spaces.{spaceSize, textSize, Kept};
-use crate::say;
+ghost use Rattle.rig.specs.Played.{played};
+ghost use Rattle.rig.specs.Kept.{Kept};
+ghost use Rattle.say.specs.Spaces.{spaceSize, textSize};
 use day::places;
 use day::records::Call;
 use day::records::Record;
 use lent::Answer;
+use say::calls;
 use table::TABLE;
 
 // How much of each buffer is lent to a call.
@@ -20,16 +21,18 @@ pub struct Lent {
     pub assembling: usize,
 }
 
-// What is kept from record to record beside the memory: what is lent, the number of calls, how much of the text is used.
+// What is kept from record to record beside the memory: what is lent, the number of calls, how much of the text is used, and whether the
+// calls are told in words.
 pub struct Run {
     pub lent: Lent,
     pub calls: usize,
     pub used: usize,
+    pub in_words: bool,
 }
 
 // "Before the first records: the sheet is empty [..], the output buffer has 4,096 zero bytes, the assembling buffer the document's exact
 // length".
-pub fn fresh() -> Run
+pub fn fresh(in_words: bool) -> Run
     ensures { λ r. ⌜ Kept r ⌝ }
 {
     Run {
@@ -40,6 +43,7 @@ pub fn fresh() -> Run
         },
         calls: 0,
         used: 0,
+        in_words,
     }
 }
 
@@ -68,7 +72,7 @@ fn make(
     }
 }
 
-// A call and its line.
+// A call, and what is written of it.
 fn answer(
     call: Call,
     rest: &[u8],
@@ -87,11 +91,22 @@ fn answer(
     let o = lent.output;
     let e = lent.assembling;
     let a = make(call, rest, &sheet[..k], t, &mut out[..o], &mut m[..e]);
-    let used = say::say_answer(text, run.used, a, out);
+    let calls = std::num::wrapping_add_usize(run.calls, 1);
+    let used = calls::say_call(
+        text,
+        run.used,
+        run.in_words,
+        calls,
+        call,
+        rest.len(),
+        a,
+        out,
+    );
     Run {
         lent,
-        calls: std::num::wrapping_add_usize(run.calls, 1),
+        calls,
         used,
+        in_words: run.in_words,
     }
 }
 
@@ -109,6 +124,7 @@ fn lend_sheet(sheet: &mut [u8], rest: &[u8], run: Run) -> Run
         },
         calls: run.calls,
         used: run.used,
+        in_words: run.in_words,
     }
 }
 
@@ -125,6 +141,7 @@ fn lend_rooms(output: u32, assembling: u32, run: Run) -> Run
         },
         calls: run.calls,
         used: run.used,
+        in_words: run.in_words,
     }
 }
 

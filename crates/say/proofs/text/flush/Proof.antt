@@ -1,10 +1,10 @@
--- `say::flush` meets its contract.
+-- `text::flush` meets its contract.
 -- Assumes nothing.
 use mathlib.Core.Path.{sym}
 use lib.Seq.{length-take-le}
 use borrow.Author.Needs.{needs}
-use Rattle.replay.proofs.say.flush.Statement.{statement}
-use Rattle.replay.proofs.say.flush.Tie as tie
+use Rattle.say.proofs.text.flush.Statement.{statement}
+use Rattle.say.proofs.text.flush.Tie as tie
 
 slice-aggregate-write-all : tie.Need-slice-aggregate-write-all
 slice-aggregate-write-all c = sym (length-take-le (c .before .before .args .used) (c .before .before .args .text .now) (c .before .before .pre))

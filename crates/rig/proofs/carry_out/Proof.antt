@@ -1,8 +1,8 @@
--- `rig::carry_out` meets its contract.
+-- `carry_out` meets its contract.
 -- Assumes nothing.
 use borrow.Author.Needs.{needs}
-use Rattle.replay.proofs.rig.carry_out.Statement.{statement}
-use Rattle.replay.proofs.rig.carry_out.Tie as tie
+use Rattle.rig.proofs.carry_out.Statement.{statement}
+use Rattle.rig.proofs.carry_out.Tie as tie
 
 enum-known-it : tie.Need-enum-known-it
 enum-known-it c = search needs

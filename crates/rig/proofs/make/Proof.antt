@@ -1,8 +1,8 @@
--- `rig::make` meets its contract.
+-- `make` meets its contract.
 -- Assumes nothing.
 use borrow.Author.Needs.{needs}
-use Rattle.replay.proofs.rig.make.Statement.{statement}
-use Rattle.replay.proofs.rig.make.Tie as tie
+use Rattle.rig.proofs.make.Statement.{statement}
+use Rattle.rig.proofs.make.Tie as tie
 
 enum-told : tie.Need-enum-told
 enum-told c = search needs
