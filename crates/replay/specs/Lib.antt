@@ -1,2 +1,1 @@
-pub mod Spaces
-pub mod Played
+pub mod Reads

@@ -2,14 +2,15 @@
 ghost use mathlib.Core.Path.{_≡_};
 ghost use Prim.Native.Nat.{_≤_};
 ghost use lib.ListN.{length};
-ghost use Rattle.replay.specs.Spaces.{spaceSize, textSize, Inside, Kept};
-use crate::rig;
-use crate::rig::Run;
-use crate::say;
+ghost use Rattle.replay.specs.Reads.{Inside};
+ghost use Rattle.rig.specs.Kept.{Kept};
+ghost use Rattle.say.specs.Spaces.{spaceSize, textSize};
 use day::lines::Ending;
 use day::places;
 use day::records;
 use day::records::Next;
+use rig::Run;
+use say::closing;
 use table::TABLE;
 
 // What a read gives.
@@ -147,8 +148,8 @@ fn finish(run: Run, sheet: &[u8], t: &[u8; TABLE], text: &mut [u8], e: Ending)
 {
     let lent = run.lent;
     let k = lent.sheet;
-    let used = say::say_farms(text, run.used, &sheet[..k], t);
-    say::say_last(text, used, e);
+    let used = closing::say_farms(text, run.used, run.in_words, &sheet[..k], t);
+    closing::say_last(text, used, run.in_words, e);
 }
 
 // Nothing more is read.
@@ -252,7 +253,7 @@ fn text_space() -> [u8; 262144]
 
 // A proved loop has to end, and nothing says that a file does: the turns are counted down. The buffer is twice the longest record, so
 // that there is always room to read into.
-pub fn play(fd: i32, path: &[u8]) {
+pub fn play(fd: i32, path: &[u8], in_words: bool) {
     let mut space = io::large_buffer();
     let buf: &mut [u8] = &mut space;
     let mut sheet_space = io::large_buffer();
@@ -269,7 +270,7 @@ pub fn play(fd: i32, path: &[u8]) {
         base: 0,
         have: 0,
         going: true,
-        run: rig::fresh(),
+        run: rig::fresh(in_words),
     };
     let mut turns = u64::MAX;
     while 0 < turns {

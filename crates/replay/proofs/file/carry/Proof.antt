@@ -62,7 +62,7 @@ same-length-10 : tie.Need-same-length-10
 same-length-10 c = search needs
 
 returns-2 : tie.Need-returns-2
-returns-2 c = search needs
+returns-2 c = (omega (arith, c .before .before .shift .ensures .0, c .before .before .before .before .before .before .before .before .before .before .before .before .before .before .before .before .before .before .before .before .before .before .before .before .before .before .before .before .pre .0), c .before .before .before .before .before .before .before .before .before .before .before .before .before .before .before .walk-all .ensures .1)
 
 pub carry-spec : {M : Type 1} → statement M
 carry-spec = tie.close (tie.spec slice-reshare-prefix-walk-all slice-aggregate-walk-all walk-all-requires wrapping-add-usize-requires enum-told finish-requires same-length same-length-2 same-length-3 same-length-4 same-length-5 returns shift-requires same-length-6 same-length-7 same-length-8 same-length-9 same-length-10 returns-2)

@@ -4,17 +4,18 @@ use mathlib.Core.Path.{_≡_, sym, _∙_}
 use Prim.Native.Nat.{_-_, _≤_}
 use lib.ListN.{length}
 use native.Mathlib.Omega.{arith}
-use Rattle.replay.specs.Spaces.{spaceSize, textSize, Kept}
+use Rattle.say.specs.Spaces.{spaceSize, textSize}
+use Rattle.rig.specs.Kept.{Kept}
 use borrow.Author.Needs.{needs}
 use Rattle.replay.proofs.file.play.Statement.{statement}
 use Rattle.replay.proofs.file.play.Tie as tie
 
 abbrev Inv-loop : tie.InvT-loop
-Inv-loop fd path buf₀ sheet₀ out₀ m₀ text₀ t₀ r₀ turns₀ buf sheet out m text t r turns =
+Inv-loop fd path in-words buf₀ sheet₀ out₀ m₀ text₀ t₀ r₀ turns₀ buf sheet out m text t r turns =
     (r .have ≤ length buf) × Kept (r .run) × (length sheet ≡ spaceSize) × (length out ≡ spaceSize) × (length m ≡ spaceSize) × (length text ≡ textSize)
 
 abbrev μ-loop : tie.MeasureT-loop
-μ-loop fd path buf₀ sheet₀ out₀ m₀ text₀ t₀ r₀ turns₀ buf sheet out m text t r turns = turns
+μ-loop fd path in-words buf₀ sheet₀ out₀ m₀ text₀ t₀ r₀ turns₀ buf sheet out m text t r turns = turns
 
 large-buffer-requires : tie.Need-large-buffer-requires Inv-loop μ-loop
 large-buffer-requires c κs = search needs

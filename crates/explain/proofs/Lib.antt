@@ -1,0 +1,5 @@
+pub mod PickLaws
+pub mod SentenceLaws
+pub mod MessageLaws
+pub mod HeadingLaws
+pub mod EntryLaws

@@ -1,0 +1,5 @@
+pub mod Sentences
+pub mod Messages
+pub mod Entries
+pub mod Headings
+pub mod Closings

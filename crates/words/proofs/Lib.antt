@@ -1,0 +1,4 @@
+pub mod SaidLaws
+pub mod LineLaws
+pub mod BookLaws
+pub mod FillLaws

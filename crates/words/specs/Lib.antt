@@ -1,0 +1,4 @@
+pub mod Said
+pub mod Book
+pub mod Sentence
+pub mod Names
