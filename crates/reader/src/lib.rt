@@ -1,6 +1,6 @@
 // The farm sheet is walked by a reader: the lent bytes, and the position at which it stands. It goes from section to section, so
-// each begins where the one before it ends. The borrow checker covers no function that has a reader in it, so those are thin,
-// and each is proved by hand; what is asked of a section's records stands in the crate sheet_records, over plain parameters.
+// each begins where the one before it ends. The functions over it are thin, because the prover's borrow checker covers none that
+// has a reader in it and each is proved by hand. What is asked of a section's records stands in sheet_records, over plain parameters.
 ghost use mathlib.Core.Path.{_≡_};
 ghost use Prim.Native.Nat.{_+_, _*_, _≤_, _<_, _^_};
 ghost use lib.ListN.{length};
@@ -56,7 +56,7 @@ pub fn section_here<'a>(r: Reader<'a>, n: usize, farms: usize, most: u8) -> bool
     sheet_records::section_ok(r.bytes, r.at, n, farms, most)
 }
 
-pub fn all_three(a: bool, b: bool, c: bool) -> bool
+fn all_three(a: bool, b: bool, c: bool) -> bool
     ensures { λ r. ⌜ r ≡ both a (both b c) ⌝ }
 {
     if !a {
@@ -68,16 +68,16 @@ pub fn all_three(a: bool, b: bool, c: bool) -> bool
     c
 }
 
-// The walk, from the header's end to the last section's: for every other caller, with plain parameters.
+// The walk from the header's end to the last section's, with plain parameters: what every other caller uses.
 pub fn sections_ok(s: &[u8], farms: usize, testers: usize, targets: usize) -> bool
     requires { ⌜ headSize + farms * farmSize + testers * knownSize + targets * knownSize ≤ length (now s) ⌝ }
     ensures { λ b. ⌜ Says b (GoodSections (now (s .entry)) farms testers targets) ⌝ }
 {
-    let first = place(s, HEAD_SIZE);
-    let a = farms_here(first, farms);
-    let second = past(first, farms, FARM_SIZE);
-    let b = section_here(second, testers, farms, TESTER_FLAG);
-    let third = past(second, testers, KNOWN_SIZE);
-    let c = section_here(third, targets, farms, TARGET_FLAG);
-    all_three(a, b, c)
+    let at_farms = place(s, HEAD_SIZE);
+    let farms_good = farms_here(at_farms, farms);
+    let at_testers = past(at_farms, farms, FARM_SIZE);
+    let testers_good = section_here(at_testers, testers, farms, TESTER_FLAG);
+    let at_targets = past(at_testers, testers, KNOWN_SIZE);
+    let targets_good = section_here(at_targets, targets, farms, TARGET_FLAG);
+    all_three(farms_good, testers_good, targets_good)
 }

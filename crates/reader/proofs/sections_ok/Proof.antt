@@ -194,22 +194,22 @@ module _ {M : Type 1} (𝓤 : URA M) (H : Heap 𝓤) (A : Atoms 𝓤) (W : Given
   Lent = ShrSlice (named 0) κ u8 .own s (v ∷ [])
 
   -- the call of `place`
-  abbrev to-place : Place 𝓤 H A mem run .Ghost
-  to-place = (((κ, tt), (q, tt), tt, (s, (headSize, tt)), (v ∷ [], (vint w64 headSize ∷ [], tt))), tt)
+  abbrev to-place : ℕ → Place 𝓤 H A mem run .Ghost
+  to-place k = (((κ, tt), (q, tt), tt, (s, (k, tt)), (v ∷ [], (vint w64 k ∷ [], tt))), tt)
 
-  goes-place : ent 𝓤 Entry (sep 𝓤 (Place 𝓤 H A mem run .pre to-place) (sem 𝓤 H A Lent))
-  goes-place =
+  goes-place : (k : ℕ) → k < 2 ^ 64 → ent 𝓤 Entry (sep 𝓤 (Place 𝓤 H A mem run .pre (to-place k)) (sem 𝓤 H A Lent))
+  goes-place k fits-k =
       qed W ((‵ (flft κ q) ⊛ ‵ ftrue) ∷ ‵ (owns (ShrSlice (named 0) κ u8 ∷ usize ∷ usize ∷ usize ∷ []) (s, (farms, (testers, (targets, tt)))) vals) ∷ []) ∵
       move ! (1 ∷ []) $ fsplit ! $ move ! (1 ∷ []) $ drop ! $ use1 W (‵ Lent ⊛ ‵ Lent) (shr-slice-copy 𝓤 H A W (named 0) κ u8 .twice s (v ∷ [])) $ split ! $
-      nothing ! $ owned ! usize (Is usize) (uint-makes 𝓤 H A W w64) headSize _ (refl, lit< tt) $ fjoin ! $ move ! (1 ∷ 0 ∷ []) $ fjoin ! $
-      move ! (2 ∷ 0 ∷ []) $ use2 W (raw (Place 𝓤 H A mem run .pre to-place))
-      (qed W ((‵ (flft κ q) ⊛ ‵ ftrue) ∷ ‵ (owns (ShrSlice (named 0) κ u8 ∷ usize ∷ []) (s, (headSize, tt)) (v ∷ [], (vint w64 headSize ∷ [], tt))) ∷ []) ∵ join ! $ frame ! $ done !) $ frame ! $ done !
+      nothing ! $ owned ! usize (Is usize) (uint-makes 𝓤 H A W w64) k _ (refl, fits-k) $ fjoin ! $ move ! (1 ∷ 0 ∷ []) $ fjoin ! $
+      move ! (2 ∷ 0 ∷ []) $ use2 W (raw (Place 𝓤 H A mem run .pre (to-place k)))
+      (qed W ((‵ (flft κ q) ⊛ ‵ ftrue) ∷ ‵ (owns (ShrSlice (named 0) κ u8 ∷ usize ∷ []) (s, (k, tt)) (v ∷ [], (vint w64 k ∷ [], tt))) ∷ []) ∵ join ! $ frame ! $ done !) $ frame ! $ done !
 
-  abbrev Placed : Reader → Type 0
-  Placed r = (r .bytes ≡ s) × (r .at ≡ headSize)
+  abbrev Placed : ℕ → Reader → Type 0
+  Placed k r = (r .bytes ≡ s) × (r .at ≡ k)
 
-  place-said : (r : Reader) → ent 𝓤 (ensured 𝓤 H A place.ended (place.clauses 𝓤 H A mem run) (κ, tt) (s, (headSize, tt)) tt r) (fact 𝓤 (Placed r))
-  place-said r = exE 𝓤 _ (λ ws. snd∗ 𝓤 (sem 𝓤 H A (lasts place.ended (κ, tt) (s, (headSize, tt)) ws)) (fact 𝓤 (Placed r)))
+  place-said : (k : ℕ) (r : Reader) → ent 𝓤 (ensured 𝓤 H A place.ended (place.clauses 𝓤 H A mem run) (κ, tt) (s, (k, tt)) tt r) (fact 𝓤 (Placed k r))
+  place-said k r = exE 𝓤 _ (λ ws. snd∗ 𝓤 (sem 𝓤 H A (lasts place.ended (κ, tt) (s, (k, tt)) ws)) (fact 𝓤 (Placed k r)))
 
   -- what a reader owns, twice
   twice : (r : Reader) (u : Val) → ent 𝓤 (sem 𝓤 H A (Own 𝓤 H A W mem run κ q r u)) (sep 𝓤 (sem 𝓤 H A (Own 𝓤 H A W mem run κ q r u)) (sem 𝓤 H A (Own 𝓤 H A W mem run κ q r u)))
@@ -246,10 +246,10 @@ module _ {M : Type 1} (𝓤 : URA M) (H : Heap 𝓤) (A : Atoms 𝓤) (W : Given
         alloc1 ! (λ l₀. alloc1 ! (λ l₁. alloc1 ! (λ l₂. alloc1 ! (λ l₃. alloc1 ! (λ l₄. alloc1 ! (λ l₅. alloc1 ! (λ l₆. alloc1 ! (λ l₇. alloc1 ! (λ l₈. alloc1 ! (λ l₉. alloc1 ! (λ l₁₀. alloc1 ! (λ l₁₁. alloc1 ! (λ l₁₂. alloc1 ! (λ l₁₃. alloc1 ! (λ l₁₄. alloc1 ! (λ l₁₅. alloc0 ! $ params1 ! $
         pass1 ! (init ! 28 refl (shr-slice-lawful 𝓤 H A W (named 0) κ u8 .typed s (v ∷ []) p .0)) $ pass1 ! (init ! 26 refl (tt, record { fits = fits-farms })) $ pass1 ! (init ! 24 refl (tt, record { fits = fits-testers })) $ pass1 ! (init ! 22 refl (tt, record { fits = fits-targets })) $ pass0 ! $
         -- _5 = place(_1, HEAD_SIZE)
-        move ! (32 ∷ []) $ use1 W (raw (Place 𝓤 H A mem run .pre to-place) ⊛ ‵ Lent) goes-place $ split ! $
-        calls-at ! fm (Place 𝓤 H A mem run) known-place to-place (and-then ! (load ! (from ! (stop !)) (look ! 30 refl)) (and-then ! (lit ! tt) (no-more !))) (λ u₁.
-        use1 W (later (some (λ (r : Reader). ((‵ (flft κ q) ⊛ ‵ ftrue) ⊛ ‵ (Own 𝓤 H A W mem run κ q r u₁)) ⊛ raw (ensured 𝓤 H A place.ended (place.clauses 𝓤 H A mem run) (κ, tt) (s, (headSize, tt)) tt r)))) (id⊢ 𝓤 _) $ await ! tt $ pick ! (λ r₁.
-        split ! $ move ! (1 ∷ []) $ use1 W (raw (fact 𝓤 (Placed r₁))) (place-said r₁) $ heard ! (Placed r₁) (λ e₁. split ! $ move ! (1 ∷ []) $
+        move ! (32 ∷ []) $ use1 W (raw (Place 𝓤 H A mem run .pre (to-place _)) ⊛ ‵ Lent) (goes-place _ (lit< tt)) $ split ! $
+        calls-at ! fm (Place 𝓤 H A mem run) known-place (to-place _) (and-then ! (load ! (from ! (stop !)) (look ! 30 refl)) (and-then ! (lit ! tt) (no-more !))) (λ u₁.
+        use1 W (later (some (λ (r : Reader). ((‵ (flft κ q) ⊛ ‵ ftrue) ⊛ ‵ (Own 𝓤 H A W mem run κ q r u₁)) ⊛ raw (ensured 𝓤 H A place.ended (place.clauses 𝓤 H A mem run) (κ, tt) (s, (_, tt)) tt r)))) (id⊢ 𝓤 _) $ await ! tt $ pick ! (λ r₁.
+        split ! $ move ! (1 ∷ []) $ use1 W (raw (fact 𝓤 (Placed _ r₁))) (place-said _ r₁) $ heard ! (Placed _ r₁) (λ e₁. split ! $ move ! (1 ∷ []) $
         peeks ! (B (κ, tt)) (Is (B (κ, tt))) (shows 𝓤 H A (B (κ, tt))) r₁ (u₁ ∷ []) (λ is₁.
         -- [what the reader owns; the token; what the bytes own; _15; …; _0; …]
         land ! (from ! (stop !)) (init ! 23 refl (typed r₁ u₁ is₁)) $
@@ -265,39 +265,39 @@ module _ {M : Type 1} (𝓤 : URA M) (H : Heap 𝓤) (A : Atoms 𝓤) (W : Given
         land ! (from ! (stop !)) (init ! 22 refl (bool-lawful 𝓤 H A W .typed a _ ia .0)) $ drop ! $ move ! (1 ∷ 0 ∷ []) $
         -- _12 = _5; _7 = past(_12, _2, FARM_SIZE)
         assigns ! (of-opd ! (load ! (from ! (stop !)) (look ! 23 refl))) (from ! (stop !)) (init ! 9 refl (typed r₁ u₁ is₁)) $
-        use2 W (raw (Past 𝓤 H A mem run .pre (to-past 𝓤 H A W mem run κ q r₁ u₁ farms farmSize))) (goes-past 𝓤 H A W mem run κ q r₁ u₁ farms farmSize fits-farms (lit< tt) (fits s at₁ (farms * farmSize) (2 ^ 64) (omega arith) short)) $
-        calls-at ! fm (Past 𝓤 H A mem run) known-past (to-past 𝓤 H A W mem run κ q r₁ u₁ farms farmSize) (and-then ! (load ! (from ! (stop !)) (look ! 8 refl)) (and-then ! (load ! (from ! (stop !)) (look ! 28 refl)) (and-then ! (lit ! tt) (no-more !)))) (λ u₂.
-        use1 W (later (some (λ (r : Reader). ((‵ (flft κ q) ⊛ ‵ ftrue) ⊛ ‵ (Own 𝓤 H A W mem run κ q r u₂)) ⊛ raw (ensured 𝓤 H A past.ended (past.clauses 𝓤 H A mem run) (κ, tt) (r₁, (farms, (farmSize, tt))) tt r)))) (id⊢ 𝓤 _) $ await ! tt $ pick ! (λ r₂.
-        split ! $ move ! (1 ∷ []) $ use1 W (raw (fact 𝓤 (Moves 𝓤 H A W mem run κ q r₁ farms farmSize r₂))) (past-said 𝓤 H A W mem run κ q r₁ farms farmSize r₂) $ heard ! (Moves 𝓤 H A W mem run κ q r₁ farms farmSize r₂) (λ e₂. split ! $ move ! (1 ∷ []) $
+        use2 W (raw (Past 𝓤 H A mem run .pre (to-past 𝓤 H A W mem run κ q r₁ u₁ farms _))) (goes-past 𝓤 H A W mem run κ q r₁ u₁ farms _ fits-farms (lit< tt) (fits s at₁ (farms * _) (2 ^ 64) (omega arith) short)) $
+        calls-at ! fm (Past 𝓤 H A mem run) known-past (to-past 𝓤 H A W mem run κ q r₁ u₁ farms _) (and-then ! (load ! (from ! (stop !)) (look ! 8 refl)) (and-then ! (load ! (from ! (stop !)) (look ! 28 refl)) (and-then ! (lit ! tt) (no-more !)))) (λ u₂.
+        use1 W (later (some (λ (r : Reader). ((‵ (flft κ q) ⊛ ‵ ftrue) ⊛ ‵ (Own 𝓤 H A W mem run κ q r u₂)) ⊛ raw (ensured 𝓤 H A past.ended (past.clauses 𝓤 H A mem run) (κ, tt) (r₁, (farms, (_, tt))) tt r)))) (id⊢ 𝓤 _) $ await ! tt $ pick ! (λ r₂.
+        split ! $ move ! (1 ∷ []) $ use1 W (raw (fact 𝓤 (Moves 𝓤 H A W mem run κ q r₁ farms _ r₂))) (past-said 𝓤 H A W mem run κ q r₁ farms _ r₂) $ heard ! (Moves 𝓤 H A W mem run κ q r₁ farms _ r₂) (λ e₂. split ! $ move ! (1 ∷ []) $
         peeks ! (B (κ, tt)) (Is (B (κ, tt))) (shows 𝓤 H A (B (κ, tt))) r₂ (u₂ ∷ []) (λ is₂.
         land ! (from ! (stop !)) (init ! 19 refl (typed r₂ u₂ is₂)) $
         let at₂ : Stands s (headSize + farms * farmSize) r₂ = moved s at₁ farms farmSize r₂ e₂ in
         -- _13 = _7; _8 = section_here(_13, _3, _2, TESTER_FLAG)
         assigns ! (of-opd ! (load ! (from ! (stop !)) (look ! 19 refl))) (from ! (stop !)) (init ! 7 refl (typed r₂ u₂ is₂)) $
         use1 W (‵ (Own 𝓤 H A W mem run κ q r₂ u₂) ⊛ ‵ (Own 𝓤 H A W mem run κ q r₂ u₂)) (twice r₂ u₂) $ split ! $ move ! (0 ∷ 2 ∷ []) $
-        use2 W (raw (SectionHere 𝓤 H A mem run .pre (to-section 𝓤 H A W mem run κ q r₂ u₂ testers farms testerFlag))) (goes-section 𝓤 H A W mem run κ q r₂ u₂ testers farms testerFlag fits-testers fits-farms (lit< tt) (room s at₂ (testers * knownSize) (omega arith))) $
-        calls-at ! fm (SectionHere 𝓤 H A mem run) known-section (to-section 𝓤 H A W mem run κ q r₂ u₂ testers farms testerFlag)
+        use2 W (raw (SectionHere 𝓤 H A mem run .pre (to-section 𝓤 H A W mem run κ q r₂ u₂ testers farms _))) (goes-section 𝓤 H A W mem run κ q r₂ u₂ testers farms _ fits-testers fits-farms (lit< tt) (room s at₂ (testers * knownSize) (omega arith))) $
+        calls-at ! fm (SectionHere 𝓤 H A mem run) known-section (to-section 𝓤 H A W mem run κ q r₂ u₂ testers farms _)
         (and-then ! (load ! (from ! (stop !)) (look ! 7 refl)) (and-then ! (load ! (from ! (stop !)) (look ! 27 refl)) (and-then ! (load ! (from ! (stop !)) (look ! 29 refl)) (and-then ! (lit ! tt) (no-more !))))) (λ y.
-        use1 W (later (some (λ (b : Bool). ((‵ (flft κ q) ⊛ ‵ ftrue) ⊛ ‵ (bool .own b (y ∷ []))) ⊛ raw (ensured 𝓤 H A section-here.ended (section-here.clauses 𝓤 H A mem run) (κ, tt) (r₂, (testers, (farms, (testerFlag, tt)))) tt b)))) (id⊢ 𝓤 _) $ await ! tt $ pick ! (λ b.
-        split ! $ move ! (1 ∷ []) $ use1 W (raw (fact 𝓤 (SectionGood 𝓤 H A W mem run κ q r₂ testers farms testerFlag b))) (section-said 𝓤 H A W mem run κ q r₂ testers farms testerFlag b) $ heard ! (SectionGood 𝓤 H A W mem run κ q r₂ testers farms testerFlag b) (λ eb. split ! $ move ! (1 ∷ []) $
+        use1 W (later (some (λ (b : Bool). ((‵ (flft κ q) ⊛ ‵ ftrue) ⊛ ‵ (bool .own b (y ∷ []))) ⊛ raw (ensured 𝓤 H A section-here.ended (section-here.clauses 𝓤 H A mem run) (κ, tt) (r₂, (testers, (farms, (_, tt)))) tt b)))) (id⊢ 𝓤 _) $ await ! tt $ pick ! (λ b.
+        split ! $ move ! (1 ∷ []) $ use1 W (raw (fact 𝓤 (SectionGood 𝓤 H A W mem run κ q r₂ testers farms _ b))) (section-said 𝓤 H A W mem run κ q r₂ testers farms _ b) $ heard ! (SectionGood 𝓤 H A W mem run κ q r₂ testers farms _ b) (λ eb. split ! $ move ! (1 ∷ []) $
         peeks ! bool (Is bool) (shows 𝓤 H A bool) b (y ∷ []) (λ ib.
         land ! (from ! (stop !)) (init ! 18 refl (bool-lawful 𝓤 H A W .typed b _ ib .0)) $ drop ! $ move ! (1 ∷ 0 ∷ []) $
         -- _14 = _7; _9 = past(_14, _3, KNOWN_SIZE)
         assigns ! (of-opd ! (load ! (from ! (stop !)) (look ! 19 refl))) (from ! (stop !)) (init ! 5 refl (typed r₂ u₂ is₂)) $
-        use2 W (raw (Past 𝓤 H A mem run .pre (to-past 𝓤 H A W mem run κ q r₂ u₂ testers knownSize))) (goes-past 𝓤 H A W mem run κ q r₂ u₂ testers knownSize fits-testers (lit< tt) (fits s at₂ (testers * knownSize) (2 ^ 64) (omega arith) short)) $
-        calls-at ! fm (Past 𝓤 H A mem run) known-past (to-past 𝓤 H A W mem run κ q r₂ u₂ testers knownSize) (and-then ! (load ! (from ! (stop !)) (look ! 4 refl)) (and-then ! (load ! (from ! (stop !)) (look ! 26 refl)) (and-then ! (lit ! tt) (no-more !)))) (λ u₃.
-        use1 W (later (some (λ (r : Reader). ((‵ (flft κ q) ⊛ ‵ ftrue) ⊛ ‵ (Own 𝓤 H A W mem run κ q r u₃)) ⊛ raw (ensured 𝓤 H A past.ended (past.clauses 𝓤 H A mem run) (κ, tt) (r₂, (testers, (knownSize, tt))) tt r)))) (id⊢ 𝓤 _) $ await ! tt $ pick ! (λ r₃.
-        split ! $ move ! (1 ∷ []) $ use1 W (raw (fact 𝓤 (Moves 𝓤 H A W mem run κ q r₂ testers knownSize r₃))) (past-said 𝓤 H A W mem run κ q r₂ testers knownSize r₃) $ heard ! (Moves 𝓤 H A W mem run κ q r₂ testers knownSize r₃) (λ e₃. split ! $ move ! (1 ∷ []) $
+        use2 W (raw (Past 𝓤 H A mem run .pre (to-past 𝓤 H A W mem run κ q r₂ u₂ testers _))) (goes-past 𝓤 H A W mem run κ q r₂ u₂ testers _ fits-testers (lit< tt) (fits s at₂ (testers * _) (2 ^ 64) (omega arith) short)) $
+        calls-at ! fm (Past 𝓤 H A mem run) known-past (to-past 𝓤 H A W mem run κ q r₂ u₂ testers _) (and-then ! (load ! (from ! (stop !)) (look ! 4 refl)) (and-then ! (load ! (from ! (stop !)) (look ! 26 refl)) (and-then ! (lit ! tt) (no-more !)))) (λ u₃.
+        use1 W (later (some (λ (r : Reader). ((‵ (flft κ q) ⊛ ‵ ftrue) ⊛ ‵ (Own 𝓤 H A W mem run κ q r u₃)) ⊛ raw (ensured 𝓤 H A past.ended (past.clauses 𝓤 H A mem run) (κ, tt) (r₂, (testers, (_, tt))) tt r)))) (id⊢ 𝓤 _) $ await ! tt $ pick ! (λ r₃.
+        split ! $ move ! (1 ∷ []) $ use1 W (raw (fact 𝓤 (Moves 𝓤 H A W mem run κ q r₂ testers _ r₃))) (past-said 𝓤 H A W mem run κ q r₂ testers _ r₃) $ heard ! (Moves 𝓤 H A W mem run κ q r₂ testers _ r₃) (λ e₃. split ! $ move ! (1 ∷ []) $
         peeks ! (B (κ, tt)) (Is (B (κ, tt))) (shows 𝓤 H A (B (κ, tt))) r₃ (u₃ ∷ []) (λ is₃.
         land ! (from ! (stop !)) (init ! 15 refl (typed r₃ u₃ is₃)) $
         let at₃ : Stands s (headSize + farms * farmSize + testers * knownSize) r₃ = moved s at₂ testers knownSize r₃ e₃ in
         -- _15 = _9; _10 = section_here(_15, _4, _2, TARGET_FLAG)
         assigns ! (of-opd ! (load ! (from ! (stop !)) (look ! 15 refl))) (from ! (stop !)) (init ! 3 refl (typed r₃ u₃ is₃)) $
-        use2 W (raw (SectionHere 𝓤 H A mem run .pre (to-section 𝓤 H A W mem run κ q r₃ u₃ targets farms targetFlag))) (goes-section 𝓤 H A W mem run κ q r₃ u₃ targets farms targetFlag fits-targets fits-farms (lit< tt) (room s at₃ (targets * knownSize) ok)) $
-        calls-at ! fm (SectionHere 𝓤 H A mem run) known-section (to-section 𝓤 H A W mem run κ q r₃ u₃ targets farms targetFlag)
+        use2 W (raw (SectionHere 𝓤 H A mem run .pre (to-section 𝓤 H A W mem run κ q r₃ u₃ targets farms _))) (goes-section 𝓤 H A W mem run κ q r₃ u₃ targets farms _ fits-targets fits-farms (lit< tt) (room s at₃ (targets * knownSize) ok)) $
+        calls-at ! fm (SectionHere 𝓤 H A mem run) known-section (to-section 𝓤 H A W mem run κ q r₃ u₃ targets farms _)
         (and-then ! (load ! (from ! (stop !)) (look ! 2 refl)) (and-then ! (load ! (from ! (stop !)) (look ! 24 refl)) (and-then ! (load ! (from ! (stop !)) (look ! 28 refl)) (and-then ! (lit ! tt) (no-more !))))) (λ z.
-        use1 W (later (some (λ (b′ : Bool). ((‵ (flft κ q) ⊛ ‵ ftrue) ⊛ ‵ (bool .own b′ (z ∷ []))) ⊛ raw (ensured 𝓤 H A section-here.ended (section-here.clauses 𝓤 H A mem run) (κ, tt) (r₃, (targets, (farms, (targetFlag, tt)))) tt b′)))) (id⊢ 𝓤 _) $ await ! tt $ pick ! (λ c.
-        split ! $ move ! (1 ∷ []) $ use1 W (raw (fact 𝓤 (SectionGood 𝓤 H A W mem run κ q r₃ targets farms targetFlag c))) (section-said 𝓤 H A W mem run κ q r₃ targets farms targetFlag c) $ heard ! (SectionGood 𝓤 H A W mem run κ q r₃ targets farms targetFlag c) (λ ec. split ! $ move ! (1 ∷ []) $
+        use1 W (later (some (λ (b′ : Bool). ((‵ (flft κ q) ⊛ ‵ ftrue) ⊛ ‵ (bool .own b′ (z ∷ []))) ⊛ raw (ensured 𝓤 H A section-here.ended (section-here.clauses 𝓤 H A mem run) (κ, tt) (r₃, (targets, (farms, (_, tt)))) tt b′)))) (id⊢ 𝓤 _) $ await ! tt $ pick ! (λ c.
+        split ! $ move ! (1 ∷ []) $ use1 W (raw (fact 𝓤 (SectionGood 𝓤 H A W mem run κ q r₃ targets farms _ c))) (section-said 𝓤 H A W mem run κ q r₃ targets farms _ c) $ heard ! (SectionGood 𝓤 H A W mem run κ q r₃ targets farms _ c) (λ ec. split ! $ move ! (1 ∷ []) $
         peeks ! bool (Is bool) (shows 𝓤 H A bool) c (z ∷ []) (λ ic.
         land ! (from ! (stop !)) (init ! 13 refl (bool-lawful 𝓤 H A W .typed c _ ic .0)) $ drop ! $
         -- _0 = all_three(_6, _8, _10)
