@@ -1,9 +1,9 @@
--- `file::read_on` meets its contract.
+-- `read_on` meets its contract.
 -- Assumes nothing.
 use native.Mathlib.Omega.{arith}
 use borrow.Author.Needs.{needs}
-use Rattle.replay.proofs.file.read_on.Statement.{statement}
-use Rattle.replay.proofs.file.read_on.Tie as tie
+use Rattle.dayfile.proofs.read_on.Statement.{statement}
+use Rattle.dayfile.proofs.read_on.Tie as tie
 
 refill-requires : tie.Need-refill-requires
 refill-requires c κs = search needs
