@@ -6,13 +6,11 @@ use Prim.Native.Nat.{ℕ}
 use Rattle.day.specs.Text.{decimal}
 use Rattle.words.specs.Said.{spelled}
 use Rattle.words.specs.Book.{phrase, book, fill}
-use Rattle.words.specs.Sentence.{sentenceText}
+use Rattle.words.specs.Sentence.{filled, address, sentence, sentenceText}
 use Rattle.words.specs.declared.fill.Arg.the-variants.{Blank, Number, Address, Code, Phrase}
 use Rattle.words.proofs.FillLaws.{holes}
-use Rattle.explain.specs.Sentences.{sentence}
 use Rattle.words.specs.Names.{refusalName}
-use Rattle.explain.specs.Messages.{filled, address}
-use Rattle.explain.proofs.SentenceLaws.{says-0, says-1, says-2, says-3}
+use Rattle.words.proofs.SentenceLaws.{says-0, says-1, says-2, says-3}
 
 pub start-says : sentenceText (sentence 48 Blank Blank Blank) ≡ spelled "start a fresh table: "
 unfolding phrase book holes

@@ -1,5 +1,1 @@
-pub mod PickLaws
-pub mod SentenceLaws
-pub mod MessageLaws
 pub mod HeadingLaws
-pub mod EntryLaws

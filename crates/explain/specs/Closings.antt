@@ -5,7 +5,7 @@ use mathlib.Core.List.{List, [], _∷_, _++_}
 use Rattle.day.specs.declared.lines.Ending.{Ending}
 use Rattle.day.specs.declared.lines.Ending.the-variants.{End, Cut, Bad}
 use Rattle.day.specs.Text.{decimal}
-use Rattle.explain.specs.Messages.{filled}
+use Rattle.words.specs.Sentence.{filled}
 
 -- "taken (bytes taken), finished (8 plus payload for each message wholly read or skipped; 8 for a header that closes), lost (bytes of an
 -- unfinished message when its row closes)"

@@ -9,7 +9,7 @@ use Rattle.day.specs.declared.records.Call.the-variants.{Start, Connect, Bytes,
 use Rattle.day.specs.Text.{decimal}
 use Rattle.words.specs.Said.{spelled}
 use Rattle.words.specs.Names.{refusalName}
-use Rattle.explain.specs.Messages.{filled, address}
+use Rattle.words.specs.Sentence.{filled, address}
 
 -- "Calls: start a fresh table; connect; bytes from a row; peer closed; link of a farm lost; tick (10 ms); datagram; message from a controller."
 unfoldable pub callText : Call → List ℕ

@@ -3,12 +3,12 @@ ghost use mathlib.Core.Path.{_≡_};
 ghost use Rattle.words.specs.Said.{Said};
 ghost use Rattle.words.specs.Sentence.{sentenceText};
 ghost use Rattle.explain.specs.Closings.{farmText, lastText, farmLine, lastLine};
-use crate::sentence::sentence;
 use day::lines::Ending;
 use words::book;
 use words::fill;
 use words::fill::Arg;
 use words::fill::Sentence;
+use words::fill::with;
 use words::put;
 
 fn farm(f: usize, taken: u32, finished: u32, lost: u32) -> Sentence
@@ -27,9 +27,9 @@ fn last(e: Ending) -> Sentence
     ensures { λ r. ⌜ sentenceText r ≡ lastText e ⌝ }
 {
     match e {
-        Ending::End(n) => sentence(book::END, Arg::Number(n), Arg::Blank, Arg::Blank),
-        Ending::Cut(n) => sentence(book::CUT, Arg::Number(n), Arg::Blank, Arg::Blank),
-        Ending::Bad(n) => sentence(book::BAD, Arg::Number(n), Arg::Blank, Arg::Blank),
+        Ending::End(n) => with(book::END, Arg::Number(n), Arg::Blank, Arg::Blank),
+        Ending::Cut(n) => with(book::CUT, Arg::Number(n), Arg::Blank, Arg::Blank),
+        Ending::Bad(n) => with(book::BAD, Arg::Number(n), Arg::Blank, Arg::Blank),
     }
 }
 

@@ -3,12 +3,12 @@ ghost use mathlib.Core.Path.{_≡_};
 ghost use Rattle.words.specs.Said.{Said};
 ghost use Rattle.words.specs.Sentence.{sentenceText};
 ghost use Rattle.explain.specs.Headings.{callText, doneText, refusedText, answerText, countText, headingLine};
-use crate::sentence::sentence;
 use day::records::Call;
 use words::book;
 use words::fill;
 use words::fill::Arg;
 use words::fill::Sentence;
+use words::fill::with;
 use words::names;
 use words::put;
 
@@ -16,39 +16,39 @@ fn about(call: Call) -> Sentence
     ensures { λ r. ⌜ sentenceText r ≡ callText call ⌝ }
 {
     match call {
-        Call::Start => sentence(book::START, Arg::Blank, Arg::Blank, Arg::Blank),
-        Call::Connect(f) => sentence(
+        Call::Start => with(book::START, Arg::Blank, Arg::Blank, Arg::Blank),
+        Call::Connect(f) => with(
             book::CONNECT,
             Arg::Number(f.0 as usize),
             Arg::Blank,
             Arg::Blank,
         ),
-        Call::Bytes(r) => sentence(
+        Call::Bytes(r) => with(
             book::BYTES,
             Arg::Number(r.0 as usize),
             Arg::Blank,
             Arg::Blank,
         ),
-        Call::Closed(r) => sentence(
+        Call::Closed(r) => with(
             book::PEER_CLOSED,
             Arg::Number(r.0 as usize),
             Arg::Blank,
             Arg::Blank,
         ),
-        Call::Lost(f) => sentence(
+        Call::Lost(f) => with(
             book::LINK_LOST,
             Arg::Number(f.0 as usize),
             Arg::Blank,
             Arg::Blank,
         ),
-        Call::Tick => sentence(book::TICK, Arg::Blank, Arg::Blank, Arg::Blank),
-        Call::Datagram(f) => sentence(
+        Call::Tick => with(book::TICK, Arg::Blank, Arg::Blank, Arg::Blank),
+        Call::Datagram(f) => with(
             book::DATAGRAM,
             Arg::Number(f.0 as usize),
             Arg::Blank,
             Arg::Blank,
         ),
-        Call::Controller(f, c, t) => sentence(
+        Call::Controller(f, c, t) => with(
             book::CONTROLLER,
             Arg::Number(f.0 as usize),
             Arg::Address(c),
@@ -62,31 +62,31 @@ fn done(call: Call, row: u8, taken: usize, given: usize) -> Sentence
     ensures { λ r. ⌜ sentenceText r ≡ doneText call row taken given ⌝ }
 {
     match call {
-        Call::Start => sentence(book::DONE, Arg::Blank, Arg::Blank, Arg::Blank),
-        Call::Connect(_) => sentence(
+        Call::Start => with(book::DONE, Arg::Blank, Arg::Blank, Arg::Blank),
+        Call::Connect(_) => with(
             book::OPENED,
             Arg::Number(row as usize),
             Arg::Blank,
             Arg::Blank,
         ),
-        Call::Bytes(_) => sentence(
+        Call::Bytes(_) => with(
             book::TAKEN,
             Arg::Number(taken),
             Arg::Number(given),
             Arg::Blank,
         ),
-        Call::Closed(_) => sentence(book::DONE, Arg::Blank, Arg::Blank, Arg::Blank),
-        Call::Lost(_) => sentence(book::DONE, Arg::Blank, Arg::Blank, Arg::Blank),
-        Call::Tick => sentence(book::DONE, Arg::Blank, Arg::Blank, Arg::Blank),
-        Call::Datagram(_) => sentence(book::DONE, Arg::Blank, Arg::Blank, Arg::Blank),
-        Call::Controller(_, _, _) => sentence(book::DONE, Arg::Blank, Arg::Blank, Arg::Blank),
+        Call::Closed(_) => with(book::DONE, Arg::Blank, Arg::Blank, Arg::Blank),
+        Call::Lost(_) => with(book::DONE, Arg::Blank, Arg::Blank, Arg::Blank),
+        Call::Tick => with(book::DONE, Arg::Blank, Arg::Blank, Arg::Blank),
+        Call::Datagram(_) => with(book::DONE, Arg::Blank, Arg::Blank, Arg::Blank),
+        Call::Controller(_, _, _) => with(book::DONE, Arg::Blank, Arg::Blank, Arg::Blank),
     }
 }
 
 fn refused(number: u8) -> Sentence
     ensures { λ r. ⌜ sentenceText r ≡ refusedText number ⌝ }
 {
-    sentence(
+    with(
         book::REFUSED,
         Arg::Number(number as usize),
         Arg::Phrase(names::refusal(number)),
@@ -106,7 +106,7 @@ fn answer(call: Call, number: u8, row: u8, taken: usize, given: usize) -> Senten
 fn count(n: usize) -> Sentence
     ensures { λ r. ⌜ sentenceText r ≡ countText n ⌝ }
 {
-    sentence(book::CALL, Arg::Number(n), Arg::Blank, Arg::Blank)
+    with(book::CALL, Arg::Number(n), Arg::Blank, Arg::Blank)
 }
 
 // The call with the number n in its file: its answer, and how many bytes were given to it.

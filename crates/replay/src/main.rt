@@ -1,7 +1,5 @@
 // Plays the day of recorded calls that its first argument names, and writes a line for each call; or, where the second argument is
 // `explain`, tells each call in words.
-mod file; // file.rt: the day's file, read in pieces
-
 use libc::STDERR_FILENO;
 
 // What the second argument asks for.
@@ -34,7 +32,7 @@ fn play(path: &[u8], in_words: bool) {
         os::fail(path);
         return;
     }
-    file::play(fd, path, in_words);
+    dayfile::play(fd, path, in_words);
     libc::close(fd);
 }
 

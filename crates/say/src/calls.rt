@@ -6,7 +6,7 @@ ghost use Rattle.say.specs.Spaces.{spaceSize, textSize};
 use crate::text::line_at;
 use day::lines;
 use day::records::Call;
-use explain::entry;
+use entries::entry;
 use explain::heading;
 use lent::Answer;
 

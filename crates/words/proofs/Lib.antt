@@ -2,3 +2,5 @@ pub mod SaidLaws
 pub mod LineLaws
 pub mod BookLaws
 pub mod FillLaws
+pub mod PickLaws
+pub mod SentenceLaws

@@ -5,7 +5,7 @@ ghost use Prim.Native.Nat.{_<_};
 ghost use lib.ListN.{length, getD};
 ghost use Rattle.words.specs.Said.{Said};
 ghost use Rattle.words.specs.Book.{fill};
-ghost use Rattle.words.specs.Sentence.{argText, argTexts, oneText, afterOne, sentenceText};
+ghost use Rattle.words.specs.Sentence.{argText, argTexts, sentence, sentenceText, oneText, afterOne};
 use crate::book;
 use crate::put;
 
@@ -29,6 +29,19 @@ pub struct Sentence {
     pub b: Arg,
     pub c: Arg,
     pub d: Arg,
+}
+
+// A sentence whose last hole is blank.
+pub fn with(phrase: usize, a: Arg, b: Arg, c: Arg) -> Sentence
+    ensures { λ r. ⌜ r ≡ sentence phrase a b c ⌝ }
+{
+    Sentence {
+        phrase,
+        a,
+        b,
+        c,
+        d: Arg::Blank,
+    }
 }
 
 const HOLE: u8 = 37;

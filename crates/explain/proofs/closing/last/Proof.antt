@@ -9,48 +9,48 @@ use Rattle.explain.proofs.closing.last.Statement.{statement}
 use Rattle.explain.proofs.closing.last.Tie as tie
 use Rattle.explain.proofs.closing.last.Reads as reads
 use Rattle.explain.proofs.closing.last.Lts as lts
-use Rattle.explain.proofs.sentence.sentence.Reads as sentence-reads
+use Rattle.words.proofs.fill.with.Reads as with-reads
 
 enum-known-e : tie.Need-enum-known-e
 enum-known-e c = search needs
 
-sentence-requires : tie.Need-sentence-requires
-sentence-requires c κs = search needs
+with-requires : tie.Need-with-requires
+with-requires c κs = search needs
 
 enum-known-e-2 : tie.Need-enum-known-e-2
 enum-known-e-2 c = search needs
 
-sentence-requires-2 : tie.Need-sentence-requires-2
-sentence-requires-2 c κs = search needs
+with-requires-2 : tie.Need-with-requires-2
+with-requires-2 c κs = search needs
 
 enum-known-e-3 : tie.Need-enum-known-e-3
 enum-known-e-3 c = search needs
 
-sentence-requires-3 : tie.Need-sentence-requires-3
-sentence-requires-3 c κs = search needs
+with-requires-3 : tie.Need-with-requires-3
+with-requires-3 c κs = search needs
 
 returns : tie.Need-returns
 unfolding lastText
-returns c = ap sentenceText (c .sentence .ensures) ∙ end-says _ ∙ sym (ap lastText (c .before .before .e .given .1))
+returns c = ap sentenceText (c .with .ensures) ∙ end-says _ ∙ sym (ap lastText (c .before .before .e .given .1))
 
 returns-2 : tie.Need-returns-2
 unfolding lastText
-returns-2 c = ap sentenceText (c .sentence2 .ensures) ∙ cut-says _ ∙ sym (ap lastText (c .before .before .e2 .given .1))
+returns-2 c = ap sentenceText (c .with2 .ensures) ∙ cut-says _ ∙ sym (ap lastText (c .before .before .e2 .given .1))
 
 returns-3 : tie.Need-returns-3
 unfolding lastText
-returns-3 c = ap sentenceText (c .sentence3 .ensures) ∙ bad-says _ ∙ sym (ap lastText (c .before .before .e3 .given .1))
+returns-3 c = ap sentenceText (c .with3 .ensures) ∙ bad-says _ ∙ sym (ap lastText (c .before .before .e3 .given .1))
 
 pub last-spec : {M : Type 1} → statement M
 last-spec =
     tie.close
     (tie.spec
     enum-known-e
-    sentence-requires
+    with-requires
     enum-known-e-2
-    sentence-requires-2
+    with-requires-2
     enum-known-e-3
-    sentence-requires-3
+    with-requires-3
     returns
     returns-2
     returns-3)

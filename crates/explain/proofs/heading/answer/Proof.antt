@@ -2,7 +2,7 @@
 -- Assumes nothing.
 use mathlib.Core.Path.{_≡_, refl, sym, ap, _∙_}
 use borrow.Author.Tests.{eq-eqb, ne-eqb}
-use Rattle.explain.proofs.PickLaws.{yes, no}
+use Rattle.words.proofs.PickLaws.{yes, no}
 use borrow.Author.Needs.{needs}
 use Rattle.explain.proofs.heading.answer.Statement.{statement}
 use Rattle.explain.proofs.heading.answer.Tie as tie

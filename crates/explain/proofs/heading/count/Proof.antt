@@ -9,14 +9,14 @@ use Rattle.explain.proofs.heading.count.Statement.{statement}
 use Rattle.explain.proofs.heading.count.Tie as tie
 use Rattle.explain.proofs.heading.count.Reads as reads
 use Rattle.explain.proofs.heading.count.Lts as lts
-use Rattle.explain.proofs.sentence.sentence.Reads as sentence-reads
+use Rattle.words.proofs.fill.with.Reads as with-reads
 
-sentence-requires : tie.Need-sentence-requires
-sentence-requires c κs = search needs
+with-requires : tie.Need-with-requires
+with-requires c κs = search needs
 
 returns : tie.Need-returns
 unfolding countText
-returns c = ap sentenceText (c .sentence .ensures) ∙ count-says _
+returns c = ap sentenceText (c .with .ensures) ∙ count-says _
 
 pub count-spec : {M : Type 1} → statement M
-count-spec = tie.close (tie.spec sentence-requires returns)
+count-spec = tie.close (tie.spec with-requires returns)

@@ -10,8 +10,8 @@ use Rattle.say.proofs.calls.tell_entries.Statement.{statement}
 use Rattle.say.proofs.calls.tell_entries.Tie as tie
 use Rattle.say.proofs.calls.tell_entries.Reads as reads
 use Rattle.say.proofs.calls.tell_entries.Lts as lts
-use Rattle.explain.proofs.entry.count.Reads as count-reads
-use Rattle.explain.proofs.entry.put_line.Reads as put-line-reads
+use Rattle.entries.proofs.entry.count.Reads as count-reads
+use Rattle.entries.proofs.entry.put_line.Reads as put-line-reads
 use Rattle.say.proofs.text.line_at.Reads as line-at-reads
 
 abbrev Inv-loop : tie.InvT-loop

@@ -1,0 +1,11 @@
+-- What a read gives.
+-- Assumes nothing: this is a definition.
+use Prim.Native.Nat.{ℕ, _≤_}
+use Rattle.dayfile.specs.declared.Fill.{Fill}
+use Rattle.dayfile.specs.declared.Fill.the-variants.{More, End, Failed}
+
+-- the count of a filled buffer lies within its n bytes
+abbrev pub Inside : Fill → ℕ → Type 0
+Inside (More k) n = k ≤ n
+Inside End n = Unit {0}
+Inside Failed n = Unit {0}
