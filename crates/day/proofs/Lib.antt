@@ -1,4 +1,2 @@
 pub mod RecordsLaws
-pub mod TextLaws
-pub mod LinesLaws
 pub mod PlacesLaws

@@ -9,7 +9,7 @@ use lib.ListN.{length, getD}
 use Rattle.octets.specs.Choice.{pick, both}
 use Rattle.octets.specs.Numbers.{u16At}
 use Rattle.octets.specs.Parts.{part}
-use Rattle.day.specs.Text.{decimal}
+use Rattle.lines.specs.Text.{decimal}
 use Rattle.words.specs.Said.{spelled}
 use Rattle.words.specs.Sentence.{filled}
 use Rattle.entries.specs.declared.entry.Spot.{Spot}

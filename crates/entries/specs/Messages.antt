@@ -8,7 +8,7 @@ use lib.ListN.{length, getD, drop}
 use Rattle.octets.specs.Choice.{pick, both}
 use Rattle.octets.specs.Numbers.{u16At, u32At}
 use Rattle.octets.specs.Parts.{part}
-use Rattle.day.specs.Text.{decimal, hex}
+use Rattle.lines.specs.Text.{decimal, hex}
 use Rattle.words.specs.Said.{spelled, letters}
 use Rattle.words.specs.Book.{fill}
 use Rattle.words.specs.Sentence.{filled, address, code}

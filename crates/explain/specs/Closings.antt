@@ -2,9 +2,9 @@
 -- Assumes nothing: these are definitions.
 use Prim.Native.Nat.{ℕ}
 use mathlib.Core.List.{List, [], _∷_, _++_}
-use Rattle.day.specs.declared.lines.Ending.{Ending}
-use Rattle.day.specs.declared.lines.Ending.the-variants.{End, Cut, Bad}
-use Rattle.day.specs.Text.{decimal}
+use Rattle.lines.specs.declared.Ending.{Ending}
+use Rattle.lines.specs.declared.Ending.the-variants.{End, Cut, Bad}
+use Rattle.lines.specs.Text.{decimal}
 use Rattle.words.specs.Sentence.{filled}
 
 -- "taken (bytes taken), finished (8 plus payload for each message wholly read or skipped; 8 for a header that closes), lost (bytes of an

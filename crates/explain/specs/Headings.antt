@@ -6,7 +6,7 @@ use lib.Dec.{eqb}
 use Rattle.octets.specs.Choice.{pick}
 use Rattle.day.specs.declared.records.Call.{Call}
 use Rattle.day.specs.declared.records.Call.the-variants.{Start, Connect, Bytes, Closed, Lost, Tick, Datagram, Controller}
-use Rattle.day.specs.Text.{decimal}
+use Rattle.lines.specs.Text.{decimal}
 use Rattle.words.specs.Said.{spelled}
 use Rattle.words.specs.Names.{refusalName}
 use Rattle.words.specs.Sentence.{filled, address}

@@ -3,7 +3,7 @@ ghost use mathlib.Core.Path.{_≡_};
 ghost use Rattle.words.specs.Said.{Said};
 ghost use Rattle.words.specs.Sentence.{sentenceText};
 ghost use Rattle.explain.specs.Closings.{farmText, lastText, farmLine, lastLine};
-use day::lines::Ending;
+use lines::Ending;
 use words::book;
 use words::fill;
 use words::fill::Arg;

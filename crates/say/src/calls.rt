@@ -4,7 +4,6 @@ ghost use Prim.Native.Nat.{_≤_};
 ghost use lib.ListN.{length};
 ghost use Rattle.say.specs.Spaces.{spaceSize, textSize};
 use crate::text::line_at;
-use day::lines;
 use day::records::Call;
 use entries::entry;
 use explain::heading;

@@ -5,10 +5,9 @@ ghost use lib.ListN.{length};
 ghost use Rattle.say.specs.Spaces.{textSize, lineSize};
 use crate::text::flush;
 use crate::text::line_at;
-use day::lines;
-use day::lines::Ending;
 use explain::closing;
 use kinds::FarmNo;
+use lines::Ending;
 use table::TABLE;
 
 fn say_farm(text: &mut [u8], used: usize, in_words: bool, f: usize, m: kinds::Meters) -> usize

@@ -9,8 +9,8 @@ use lib.ListN.{length, getD, take, drop, set, length-append}
 use lib.Seq.{take-suc, length-take-le, take-at}
 use Rattle.octets.specs.Put.{putAt}
 use Rattle.octets.proofs.PutLaws.{putAt-none, put-start, set-more}
-use Rattle.day.specs.Text.{decimal, Wrote}
-use Rattle.day.proofs.TextLaws.{wrote-more}
+use Rattle.lines.specs.Text.{decimal, Wrote}
+use Rattle.lines.proofs.TextLaws.{wrote-more}
 use Rattle.words.specs.Said.{Said, shownOf, letters}
 
 -- one text after another

@@ -8,7 +8,7 @@ use mathlib.Core.List.{List, [], _∷_, _++_}
 use lib.ListN.{length}
 use lib.Dec.{ltb}
 use Rattle.octets.specs.Choice.{pick}
-use Rattle.day.specs.Text.{Wrote}
+use Rattle.lines.specs.Text.{Wrote}
 
 -- a text as the numbers of its characters
 abbrev pub spelled : String → List ℕ

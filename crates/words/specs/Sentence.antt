@@ -7,7 +7,7 @@ use lib.Dec.{eqb}
 use lib.ListN.{getD}
 use Rattle.octets.specs.Choice.{pick}
 use Rattle.octets.specs.Numbers.{be16}
-use Rattle.day.specs.Text.{decimal, hex}
+use Rattle.lines.specs.Text.{decimal, hex}
 use Rattle.words.specs.declared.fill.Arg.{Arg}
 use Rattle.words.specs.declared.fill.Arg.the-variants.{Blank, Number, Address, Code, Phrase}
 use Rattle.words.specs.declared.fill.Sentence.{Sentence}

@@ -5,9 +5,9 @@ ghost use Prim.Native.Nat.{_+_, _≤_};
 ghost use lib.ListN.{length};
 ghost use Rattle.octets.specs.Numbers.{be16};
 ghost use Rattle.octets.specs.Says.{Says};
-ghost use Rattle.day.specs.Text.{decimal, hex};
+ghost use Rattle.lines.specs.Text.{decimal, hex};
 ghost use Rattle.words.specs.Said.{Said, shownOf, letters};
-use day::text;
+use lines::text;
 
 // There is room for so many bytes more, at a place of a buffer of so many.
 fn has_room(have: usize, at: usize, n: usize) -> bool

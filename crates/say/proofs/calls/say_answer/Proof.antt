@@ -1,13 +1,13 @@
 -- `calls::say_answer` meets its contract.
 -- Assumes nothing.
 use native.Mathlib.Omega.{arith}
-use Rattle.day.proofs.LinesLaws.{length-answer}
+use Rattle.lines.proofs.LinesLaws.{length-answer}
 use borrow.Author.Needs.{needs}
 use Rattle.say.proofs.calls.say_answer.Statement.{statement}
 use Rattle.say.proofs.calls.say_answer.Tie as tie
 use Rattle.say.proofs.calls.say_answer.Reads as reads
 use Rattle.say.proofs.calls.say_answer.Lts as lts
-use Rattle.day.proofs.lines.put_answer.Reads as put-answer-reads
+use Rattle.lines.proofs.put_answer.Reads as put-answer-reads
 use Rattle.say.proofs.text.line_at.Reads as line-at-reads
 
 line-at-requires : tie.Need-line-at-requires

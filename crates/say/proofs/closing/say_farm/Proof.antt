@@ -1,13 +1,13 @@
 -- `closing::say_farm` meets its contract.
 -- Assumes nothing.
 use native.Mathlib.Omega.{arith}
-use Rattle.day.proofs.LinesLaws.{length-farm}
+use Rattle.lines.proofs.LinesLaws.{length-farm}
 use borrow.Author.Needs.{needs}
 use Rattle.say.proofs.closing.say_farm.Statement.{statement}
 use Rattle.say.proofs.closing.say_farm.Tie as tie
 use Rattle.say.proofs.closing.say_farm.Reads as reads
 use Rattle.say.proofs.closing.say_farm.Lts as lts
-use Rattle.day.proofs.lines.put_farm.Reads as lines-put-farm-reads
+use Rattle.lines.proofs.put_farm.Reads as lines-put-farm-reads
 use Rattle.explain.proofs.closing.put_farm.Reads as closing-put-farm-reads
 use Rattle.say.proofs.text.line_at.Reads as line-at-reads
 

@@ -4,14 +4,14 @@ use mathlib.Core.Path.{_≡_, refl, sym, ap, subst, _∙_}
 use native.Mathlib.Omega.{arith}
 use borrow.Author.Tests.{not-true, not-false}
 use Rattle.octets.proofs.SaysLaws.{refuted}
-use Rattle.day.proofs.TextLaws.{length-hex}
+use Rattle.lines.proofs.TextLaws.{length-hex}
 use Rattle.words.proofs.SaidLaws.{said-none, said-all}
 use borrow.Author.Needs.{needs}
 use Rattle.words.proofs.put.bytes.Statement.{statement}
 use Rattle.words.proofs.put.bytes.Tie as tie
 use Rattle.words.proofs.put.bytes.Reads as reads
 use Rattle.words.proofs.put.bytes.Lts as lts
-use Rattle.day.proofs.text.put_hex.Reads as put-hex-reads
+use Rattle.lines.proofs.text.put_hex.Reads as put-hex-reads
 use Rattle.words.proofs.put.has_room.Reads as has-room-reads
 
 mul-has-room : tie.Need-mul-has-room

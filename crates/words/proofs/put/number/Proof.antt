@@ -5,7 +5,7 @@ use native.Mathlib.Omega.{arith}
 use mathlib.Core.List.{List}
 use Prim.Native.Nat.{ℕ}
 use lib.Seq.{length-take-le}
-use Rattle.day.proofs.TextLaws.{length-decimal}
+use Rattle.lines.proofs.TextLaws.{length-decimal}
 use Rattle.words.specs.Said.{Said}
 use Rattle.words.proofs.SaidLaws.{digits-are}
 use borrow.Author.Needs.{needs}
@@ -13,7 +13,7 @@ use Rattle.words.proofs.put.number.Statement.{statement}
 use Rattle.words.proofs.put.number.Tie as tie
 use Rattle.words.proofs.put.number.Reads as reads
 use Rattle.words.proofs.put.number.Lts as lts
-use Rattle.day.proofs.text.put_decimal.Reads as put-decimal-reads
+use Rattle.lines.proofs.text.put_decimal.Reads as put-decimal-reads
 use Rattle.words.proofs.put.words.Reads as words-reads
 
 slice-aggregate-put-decimal : tie.Need-slice-aggregate-put-decimal
