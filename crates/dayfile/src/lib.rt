@@ -10,7 +10,7 @@ use day::records;
 use day::records::Next;
 use lines::Ending;
 use rig::Run;
-use say::closing;
+use say::ending;
 use table::TABLE;
 
 // What a read gives.
@@ -148,8 +148,8 @@ fn finish(run: Run, sheet: &[u8], t: &[u8; TABLE], text: &mut [u8], e: Ending)
 {
     let lent = run.lent;
     let k = lent.sheet;
-    let used = closing::say_farms(text, run.used, run.in_words, &sheet[..k], t);
-    closing::say_last(text, used, run.in_words, e);
+    let used = ending::say_farms(text, run.used, run.in_words, &sheet[..k], t);
+    ending::say_last(text, used, run.in_words, e);
 }
 
 // Nothing more is read.

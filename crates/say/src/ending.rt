@@ -5,7 +5,6 @@ ghost use lib.ListN.{length};
 ghost use Rattle.say.specs.Spaces.{textSize, lineSize};
 use crate::text::flush;
 use crate::text::line_at;
-use explain::closing;
 use kinds::FarmNo;
 use lines::Ending;
 use table::TABLE;
@@ -16,7 +15,7 @@ fn say_farm(text: &mut [u8], used: usize, in_words: bool, f: usize, m: kinds::Me
 {
     let at = line_at(text, used);
     if in_words {
-        return closing::put_farm(text, at, f, m.taken, m.finished, m.lost);
+        return explain::closing::put_farm(text, at, f, m.taken, m.finished, m.lost);
     }
     lines::put_farm(text, at, f, m.taken, m.finished, m.lost)
 }
@@ -45,7 +44,7 @@ fn put_last(text: &mut [u8], at: usize, in_words: bool, e: Ending) -> usize
     ensures { λ r. ⌜ r ≤ textSize ⌝ }
 {
     if in_words {
-        return closing::put_last(text, at, e);
+        return explain::closing::put_last(text, at, e);
     }
     lines::put_last(text, at, e)
 }

@@ -1,4 +1,4 @@
--- `closing::say_farms` meets its contract.
+-- `ending::say_farms` meets its contract.
 -- Assumes nothing.
 use mathlib.Core.Path.{_≡_, refl, sym, _∙_}
 use Prim.Native.Nat.{_-_, _≤_}
@@ -8,12 +8,12 @@ use borrow.Author.Needs.{needs}
 use Rattle.say.specs.Spaces.{textSize}
 use borrow.Author.Tests.{not-false}
 use Rattle.sheet.proofs.LengthLaws.{good-lengths}
-use Rattle.say.proofs.closing.say_farms.Statement.{statement}
-use Rattle.say.proofs.closing.say_farms.Tie as tie
-use Rattle.say.proofs.closing.say_farms.Reads as reads
-use Rattle.say.proofs.closing.say_farms.Lts as lts
+use Rattle.say.proofs.ending.say_farms.Statement.{statement}
+use Rattle.say.proofs.ending.say_farms.Tie as tie
+use Rattle.say.proofs.ending.say_farms.Reads as reads
+use Rattle.say.proofs.ending.say_farms.Lts as lts
 use Rattle.call_meters.proofs.meters.Reads as meters-reads
-use Rattle.say.proofs.closing.say_farm.Reads as say-farm-reads
+use Rattle.say.proofs.ending.say_farm.Reads as say-farm-reads
 use Rattle.sheet.proofs.head.farm_count.Reads as farm-count-reads
 use Rattle.sheet_rules.proofs.sheet_ok.Reads as sheet-ok-reads
 

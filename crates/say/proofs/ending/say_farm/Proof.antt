@@ -1,12 +1,12 @@
--- `closing::say_farm` meets its contract.
+-- `ending::say_farm` meets its contract.
 -- Assumes nothing.
 use native.Mathlib.Omega.{arith}
 use Rattle.lines.proofs.LinesLaws.{length-farm}
 use borrow.Author.Needs.{needs}
-use Rattle.say.proofs.closing.say_farm.Statement.{statement}
-use Rattle.say.proofs.closing.say_farm.Tie as tie
-use Rattle.say.proofs.closing.say_farm.Reads as reads
-use Rattle.say.proofs.closing.say_farm.Lts as lts
+use Rattle.say.proofs.ending.say_farm.Statement.{statement}
+use Rattle.say.proofs.ending.say_farm.Tie as tie
+use Rattle.say.proofs.ending.say_farm.Reads as reads
+use Rattle.say.proofs.ending.say_farm.Lts as lts
 use Rattle.lines.proofs.put_farm.Reads as lines-put-farm-reads
 use Rattle.explain.proofs.closing.put_farm.Reads as closing-put-farm-reads
 use Rattle.say.proofs.text.line_at.Reads as line-at-reads

@@ -1,12 +1,12 @@
--- `closing::put_last` meets its contract.
+-- `ending::put_last` meets its contract.
 -- Assumes nothing.
 use native.Mathlib.Omega.{arith}
 use Rattle.lines.proofs.LinesLaws.{length-last-line}
 use borrow.Author.Needs.{needs}
-use Rattle.say.proofs.closing.put_last.Statement.{statement}
-use Rattle.say.proofs.closing.put_last.Tie as tie
-use Rattle.say.proofs.closing.put_last.Reads as reads
-use Rattle.say.proofs.closing.put_last.Lts as lts
+use Rattle.say.proofs.ending.put_last.Statement.{statement}
+use Rattle.say.proofs.ending.put_last.Tie as tie
+use Rattle.say.proofs.ending.put_last.Reads as reads
+use Rattle.say.proofs.ending.put_last.Lts as lts
 use Rattle.lines.proofs.put_last.Reads as lines-put-last-reads
 use Rattle.explain.proofs.closing.put_last.Reads as closing-put-last-reads
 
