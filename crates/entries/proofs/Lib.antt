@@ -1,2 +1,3 @@
 pub mod MessageLaws
 pub mod EntryLaws
+pub mod LengthLaws

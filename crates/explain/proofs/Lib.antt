@@ -1,1 +1,2 @@
 pub mod HeadingLaws
+pub mod LengthLaws

@@ -4,3 +4,4 @@ pub mod BookLaws
 pub mod FillLaws
 pub mod PickLaws
 pub mod SentenceLaws
+pub mod LengthLaws

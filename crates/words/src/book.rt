@@ -4,6 +4,7 @@ ghost use Rattle.words.specs.Book.{lineIn, phrase};
 use crate::page;
 use crate::put;
 
+// Refusals.
 pub const REFUSED_1: usize = 0;
 
 pub const REFUSED_2: usize = 1;
@@ -26,6 +27,7 @@ pub const REFUSED_10: usize = 9;
 
 pub const REFUSED_OTHER: usize = 10;
 
+// The codes of a header negative acknowledge.
 pub const FAULT_PATTERN: usize = 11;
 
 pub const FAULT_TYPE: usize = 12;
@@ -34,6 +36,7 @@ pub const FAULT_LONG: usize = 13;
 
 pub const FAULT_LENGTH: usize = 14;
 
+// The codes of a routing activation response.
 pub const NOT_OF_FARM: usize = 15;
 
 pub const ALL_IN_USE: usize = 16;
@@ -46,6 +49,7 @@ pub const TYPE_NOT_SUPPORTED: usize = 19;
 
 pub const ACTIVATED: usize = 20;
 
+// The codes of an answer to a diagnostic message.
 pub const ACCEPTED: usize = 21;
 
 pub const SENDER_NOT_ACTIVE: usize = 22;
@@ -56,6 +60,7 @@ pub const NOT_REACHABLE: usize = 24;
 
 pub const UNKNOWN_CODE: usize = 25;
 
+// Power modes.
 pub const NOT_READY: usize = 26;
 
 pub const READY: usize = 27;
@@ -64,6 +69,7 @@ pub const NOT_SUPPORTED: usize = 28;
 
 pub const UNKNOWN_MODE: usize = 29;
 
+// What becomes of an entry.
 pub const NACK: usize = 30;
 
 pub const IDENTITY: usize = 31;
@@ -94,10 +100,12 @@ pub const ODD_KIND: usize = 43;
 
 pub const ODD_ENTRY: usize = 44;
 
+// Whose entry it is.
 pub const TO_ROW: usize = 45;
 
 pub const TO_SENDER: usize = 46;
 
+// A heading: its number, the call, the answer.
 pub const CALL: usize = 47;
 
 pub const START: usize = 48;
@@ -124,6 +132,7 @@ pub const TAKEN: usize = 58;
 
 pub const REFUSED: usize = 59;
 
+// The closing lines.
 pub const FARM: usize = 60;
 
 pub const END: usize = 61;
