@@ -10,8 +10,8 @@ use lib.ListN.{length, getD, drop, length-append}
 use Rattle.octets.specs.Numbers.{u16At, u32At, be16}
 use Rattle.octets.specs.Parts.{part}
 use Rattle.octets.proofs.PartsLaws.{part-short}
-use Rattle.day.specs.Text.{decimal, hex}
-use Rattle.day.proofs.TextLaws.{length-decimal, length-hex}
+use Rattle.lines.specs.Text.{decimal, hex}
+use Rattle.lines.proofs.TextLaws.{length-decimal, length-hex}
 use Rattle.words.specs.Said.{spelled, letters}
 use Rattle.words.specs.Sentence.{filled, address, code}
 use Rattle.words.specs.Names.{faultName, activationName, diagnosticName, modeName}

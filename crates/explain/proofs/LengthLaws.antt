@@ -6,12 +6,12 @@ use native.Mathlib.Omega.{arith}
 use lib.Dec.{eqb}
 use lib.ListN.{length, length-append}
 use Rattle.octets.specs.Numbers.{be16}
-use Rattle.day.specs.declared.lines.Ending.{Ending}
-use Rattle.day.specs.declared.lines.Ending.the-variants.{End, Cut, Bad}
+use Rattle.lines.specs.declared.Ending.{Ending}
+use Rattle.lines.specs.declared.Ending.the-variants.{End, Cut, Bad}
 use Rattle.day.specs.declared.records.Call.{Call}
 use Rattle.day.specs.declared.records.Call.the-variants.{Start, Connect, Bytes, Closed, Lost, Tick, Datagram, Controller}
-use Rattle.day.specs.Text.{decimal, hex}
-use Rattle.day.proofs.TextLaws.{length-decimal, length-hex}
+use Rattle.lines.specs.Text.{decimal, hex}
+use Rattle.lines.proofs.TextLaws.{length-decimal, length-hex}
 use Rattle.words.specs.Said.{spelled}
 use Rattle.words.specs.Sentence.{address}
 use Rattle.words.specs.Names.{refusalName}
