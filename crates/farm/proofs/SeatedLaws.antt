@@ -17,7 +17,7 @@ use Rattle.model.proofs.Cases.{pick-case}
 use Rattle.model.proofs.Seats.{closed-line, closings-keep}
 use Rattle.table.specs.Layout.{seats}
 use Rattle.closing.specs.Did.{Seated}
-use Rattle.line.proofs.LineLaws.{seated-rest, advanced-line}
+use Rattle.line_join.proofs.LineLaws.{seated-rest, advanced-line}
 
 -- ---- the line stays
 

@@ -8,7 +8,6 @@ ghost use Rattle.decide.specs.SiteSheet.{siteSheet};
 ghost use Rattle.closing.specs.Did.{RowsFit, Seated, Did};
 use closing::close;
 use kinds::Site;
-use line::join;
 use line::settle;
 use rowwork::check;
 
@@ -18,7 +17,7 @@ pub fn peer_closed(b: &mut [u8], p: &mut [u8], site: Site, seat: usize)
     ensures { λ _. ⌜ Did (now (p .entry)) (now (b .exit)) (now (p .exit)) (peerGone (siteSheet site) seat (farmOf (now (b .entry)))) ⌝ }
 {
     close::close(b, p, site, seat);
-    join::leave_line(b, p, site, seat);
+    line_join::leave_line(b, p, site, seat);
     settle::settle(b, p, site);
 }
 

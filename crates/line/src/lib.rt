@@ -1,3 +1,2 @@
 // A farm's line of waiting rows: settled after any change, joined, left; and the mark of a row that answered.
-pub mod join; // join.rt: a row joins or leaves the line, or is marked
 pub mod settle; // settle.rt: heads that have their answer leave

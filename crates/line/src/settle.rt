@@ -8,7 +8,7 @@ ghost use Rattle.plan.specs.Plan.{PlanOk};
 ghost use Rattle.table.specs.Block.{farmOf, Whole};
 ghost use Rattle.decide.specs.SiteSheet.{siteSheet};
 ghost use Rattle.closing.specs.Did.{RowsFit, Seated, Did};
-ghost use Rattle.line.specs.Verdict.{isPending};
+ghost use Rattle.line_join.specs.Verdict.{isPending};
 use kinds::HeadVerdict;
 use kinds::Site;
 use rowwork::answer;

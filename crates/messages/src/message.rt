@@ -16,7 +16,6 @@ use crate::fault;
 use kinds::Event;
 use kinds::FarmNo;
 use kinds::Site;
-use line::join;
 use wire::payload;
 
 // By the message's type.
@@ -42,7 +41,7 @@ pub fn message(
     }
     if kind == 0x0008 {
         let a = payload::address_of(&room[..n]);
-        join::mark_row(b, site, seat, a);
+        line_join::mark_row(b, site, seat, a);
         return;
     }
     if kind == 0x8001 {

@@ -18,7 +18,6 @@ use kinds::FarmNo;
 use kinds::Request;
 use kinds::RowState;
 use kinds::Site;
-use line::join;
 use rowwork::answer;
 use sheet::find;
 use sheet::find::Found;
@@ -81,7 +80,7 @@ fn carry_out(b: &mut [u8], p: &mut [u8], site: Site, seat: usize, q: Request, d:
 {
     match d {
         Decision::Now(code) => answer::answer(b, p, site, seat, q.address, code),
-        Decision::Ask(_) => join::join_line(b, p, site, seat, q),
+        Decision::Ask(_) => line_join::join_line(b, p, site, seat, q),
     }
 }
 

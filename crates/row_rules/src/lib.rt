@@ -76,7 +76,7 @@ fn mark_keeps(b: &[u8], site: Site, i: usize) -> bool
     if !table::marks::mark_at(b, i) {
         return true;
     }
-    line::join::is_asked(b, site, i)
+    line_join::is_asked(b, site, i)
 }
 
 // ---- by the row's state

@@ -16,8 +16,8 @@ use Rattle.decide.specs.SiteSheet.{siteSheet}
 use Rattle.closing.specs.Did.{Seated}
 use Rattle.rowwork.specs.Acted.{acted}
 use Rattle.closing.proofs.DidLaws.{did-same, did-nothing, did-then, then-assoc}
-use Rattle.line.specs.Verdict.{isPending}
-use Rattle.line.proofs.LineLaws.{seated-rest, acted-line, advanced-line, settle-none, settle-pending, settle-acts}
+use Rattle.line_join.specs.Verdict.{isPending}
+use Rattle.line_join.proofs.LineLaws.{seated-rest, acted-line, advanced-line, settle-none, settle-pending, settle-acts}
 use borrow.Author.Needs.{needs}
 use borrow.Fn.Kinds.{In}
 use borrow.Fn.PlainCycle.{Measures, is, falls, and}

@@ -11,10 +11,10 @@ use Rattle.model.specs.Line.{started}
 use Rattle.table.specs.Block.{farmOf}
 use Rattle.decide.specs.SiteSheet.{siteSheet}
 use Rattle.closing.proofs.DidLaws.{did-same, did-quietly}
-use Rattle.line.proofs.LineLaws.{joined-first, joined-behind}
+use Rattle.line_join.proofs.LineLaws.{joined-first, joined-behind}
 use borrow.Author.Needs.{needs}
-use Rattle.line.proofs.join.join_line.Statement.{statement}
-use Rattle.line.proofs.join.join_line.Tie as tie
+use Rattle.line_join.proofs.join_line.Statement.{statement}
+use Rattle.line_join.proofs.join_line.Tie as tie
 
 waiting-requires : tie.Need-waiting-requires
 waiting-requires c κs = search needs

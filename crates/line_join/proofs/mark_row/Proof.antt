@@ -9,10 +9,10 @@ use Rattle.model.specs.FarmSheet.{FarmSheet}
 use Rattle.model.specs.Farm.{Farm, withMarks}
 use Rattle.table.specs.Block.{farmOf}
 use Rattle.decide.specs.SiteSheet.{siteSheet}
-use Rattle.line.proofs.LineLaws.{marked-stranger, marked-unasked, marked-yes}
+use Rattle.line_join.proofs.LineLaws.{marked-stranger, marked-unasked, marked-yes}
 use borrow.Author.Needs.{needs}
-use Rattle.line.proofs.join.mark_row.Statement.{statement}
-use Rattle.line.proofs.join.mark_row.Tie as tie
+use Rattle.line_join.proofs.mark_row.Statement.{statement}
+use Rattle.line_join.proofs.mark_row.Tie as tie
 
 active-as-requires : tie.Need-active-as-requires
 active-as-requires c κs = search needs

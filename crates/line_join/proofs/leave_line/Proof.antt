@@ -7,10 +7,10 @@ use Rattle.model.specs.Farm.{Farm}
 use Rattle.table.specs.Block.{farmOf}
 use Rattle.decide.specs.SiteSheet.{siteSheet}
 use Rattle.closing.proofs.DidLaws.{did-same, did-quietly, did-nothing}
-use Rattle.line.proofs.LineLaws.{left-none, left-head, left-behind}
+use Rattle.line_join.proofs.LineLaws.{left-none, left-head, left-behind}
 use borrow.Author.Needs.{needs}
-use Rattle.line.proofs.join.leave_line.Statement.{statement}
-use Rattle.line.proofs.join.leave_line.Tie as tie
+use Rattle.line_join.proofs.leave_line.Statement.{statement}
+use Rattle.line_join.proofs.leave_line.Tie as tie
 
 waiting-requires : tie.Need-waiting-requires
 waiting-requires c κs = search needs

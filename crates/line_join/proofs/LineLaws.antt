@@ -21,7 +21,7 @@ use Rattle.model.proofs.Seats.{closed-line, closings-keep}
 use Rattle.model.proofs.Settling.{advanced-farm}
 use Rattle.closing.specs.Did.{Seated}
 use Rattle.rowwork.specs.Acted.{acted}
-use Rattle.line.specs.Verdict.{isPending}
+use Rattle.line_join.specs.Verdict.{isPending}
 
 -- ---- seats
 

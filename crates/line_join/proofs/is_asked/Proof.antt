@@ -10,10 +10,10 @@ use Rattle.model.specs.Farm.{Farm}
 use Rattle.model.specs.Line.{socketRules, askedBy}
 use Rattle.table.specs.Block.{farmOf}
 use Rattle.decide.specs.SiteSheet.{siteSheet}
-use Rattle.line.proofs.LineLaws.{asked-none, asked-head}
+use Rattle.line_join.proofs.LineLaws.{asked-none, asked-head}
 use borrow.Author.Needs.{needs}
-use Rattle.line.proofs.join.is_asked.Statement.{statement}
-use Rattle.line.proofs.join.is_asked.Tie as tie
+use Rattle.line_join.proofs.is_asked.Statement.{statement}
+use Rattle.line_join.proofs.is_asked.Tie as tie
 
 waiting-requires : tie.Need-waiting-requires
 waiting-requires c κs = search needs
