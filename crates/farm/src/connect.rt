@@ -8,7 +8,6 @@ ghost use Rattle.model.specs.Farm.{withRow};
 ghost use Rattle.table.specs.Layout.{seats, blockSize};
 ghost use Rattle.table.specs.Block.{farmOf, Whole, Holds};
 ghost use Rattle.farm.specs.Connected.{Connected};
-use crate::ask;
 use closing::say;
 use kinds::Clock;
 use kinds::RowState;
@@ -20,7 +19,7 @@ fn free_row(b: &[u8], rows: usize) -> Found
     ensures { λ r. ⌜ r ≡ firstAt isFree 0 (take rows (farmOf (now (b .entry)) .rows)) ⌝ }
 {
     for i in 0..rows {
-        if ask::is_free(b, i) {
+        if farm_ask::is_free(b, i) {
             return Found::At(i);
         }
     }

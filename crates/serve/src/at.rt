@@ -18,7 +18,7 @@ pub fn is_open(t: &[u8], f: FarmNo, seat: usize) -> bool
 {
     let a = (f.0 as usize) * BLOCK;
     let e = a + BLOCK;
-    farm::ask::is_open(&t[a..e], seat)
+    farm_ask::is_open(&t[a..e], seat)
 }
 
 // Refusal 7, of an open row, is where this says yes.
@@ -28,7 +28,7 @@ pub fn is_waiting(t: &[u8], f: FarmNo, seat: usize) -> bool
 {
     let a = (f.0 as usize) * BLOCK;
     let e = a + BLOCK;
-    farm::ask::is_waiting(&t[a..e], seat)
+    farm_ask::is_waiting(&t[a..e], seat)
 }
 
 // "open rows of the farm"
@@ -38,5 +38,5 @@ pub fn open_rows(t: &[u8], f: FarmNo) -> usize
 {
     let a = (f.0 as usize) * BLOCK;
     let e = a + BLOCK;
-    farm::ask::open_rows(&t[a..e])
+    farm_ask::open_rows(&t[a..e])
 }

@@ -11,7 +11,7 @@ use Rattle.serve.proofs.at.is_open.Statement.{statement}
 use Rattle.serve.proofs.at.is_open.Tie as tie
 use Rattle.serve.proofs.at.is_open.Reads as reads
 use Rattle.serve.proofs.at.is_open.Lts as lts
-use Rattle.farm.proofs.ask.is_open.Reads as is-open-reads
+use Rattle.farm_ask.proofs.is_open.Reads as is-open-reads
 
 cast-a : tie.Need-cast-a
 cast-a c = search needs

@@ -11,7 +11,7 @@ use Rattle.serve.proofs.at.is_waiting.Statement.{statement}
 use Rattle.serve.proofs.at.is_waiting.Tie as tie
 use Rattle.serve.proofs.at.is_waiting.Reads as reads
 use Rattle.serve.proofs.at.is_waiting.Lts as lts
-use Rattle.farm.proofs.ask.is_waiting.Reads as is-waiting-reads
+use Rattle.farm_ask.proofs.is_waiting.Reads as is-waiting-reads
 
 cast-a : tie.Need-cast-a
 cast-a c = search needs

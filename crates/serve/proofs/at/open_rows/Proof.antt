@@ -11,7 +11,7 @@ use Rattle.serve.proofs.at.open_rows.Statement.{statement}
 use Rattle.serve.proofs.at.open_rows.Tie as tie
 use Rattle.serve.proofs.at.open_rows.Reads as reads
 use Rattle.serve.proofs.at.open_rows.Lts as lts
-use Rattle.farm.proofs.ask.open_rows.Reads as open-rows-reads
+use Rattle.farm_ask.proofs.open_rows.Reads as open-rows-reads
 
 cast-a : tie.Need-cast-a
 cast-a c = search needs

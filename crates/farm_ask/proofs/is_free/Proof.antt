@@ -3,8 +3,8 @@
 use mathlib.Core.Path.{ap, _∙_}
 use Rattle.model.specs.Row.{isFreeState}
 use borrow.Author.Needs.{needs}
-use Rattle.farm.proofs.ask.is_free.Statement.{statement}
-use Rattle.farm.proofs.ask.is_free.Tie as tie
+use Rattle.farm_ask.proofs.is_free.Statement.{statement}
+use Rattle.farm_ask.proofs.is_free.Tie as tie
 
 state-at-requires : tie.Need-state-at-requires
 state-at-requires c κs = search needs

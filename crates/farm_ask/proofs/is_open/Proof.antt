@@ -3,8 +3,8 @@
 use mathlib.Core.Path.{ap, _∙_}
 use Rattle.model.specs.Row.{isOpenState}
 use borrow.Author.Needs.{needs}
-use Rattle.farm.proofs.ask.is_open.Statement.{statement}
-use Rattle.farm.proofs.ask.is_open.Tie as tie
+use Rattle.farm_ask.proofs.is_open.Statement.{statement}
+use Rattle.farm_ask.proofs.is_open.Tie as tie
 
 state-at-requires : tie.Need-state-at-requires
 state-at-requires c κs = search needs

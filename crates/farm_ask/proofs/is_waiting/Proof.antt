@@ -3,8 +3,8 @@
 use mathlib.Core.Path.{ap, _∙_}
 use Rattle.model.specs.Row.{isWaitingState}
 use borrow.Author.Needs.{needs}
-use Rattle.farm.proofs.ask.is_waiting.Statement.{statement}
-use Rattle.farm.proofs.ask.is_waiting.Tie as tie
+use Rattle.farm_ask.proofs.is_waiting.Statement.{statement}
+use Rattle.farm_ask.proofs.is_waiting.Tie as tie
 
 state-at-requires : tie.Need-state-at-requires
 state-at-requires c κs = search needs

@@ -13,8 +13,8 @@ use Rattle.model.specs.Row.{freeRow, isOpen}
 use Rattle.table.specs.Block.{farmOf}
 use Rattle.decide.proofs.RowLaws.{nine}
 use borrow.Author.Needs.{needs}
-use Rattle.farm.proofs.ask.open_rows.Statement.{statement}
-use Rattle.farm.proofs.ask.open_rows.Tie as tie
+use Rattle.farm_ask.proofs.open_rows.Statement.{statement}
+use Rattle.farm_ask.proofs.open_rows.Tie as tie
 
 abbrev Inv-loop : tie.InvT-loop
 Inv-loop b n₀ i₀ n i = (n + countIf isOpen (drop i (farmOf b .rows)) ≡ countIf isOpen (farmOf b .rows)) × (i ≤ 9) × (n ≤ i)
