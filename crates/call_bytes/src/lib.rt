@@ -3,7 +3,6 @@ ghost use Rattle.model.specs.Table.{bytesFrom};
 ghost use Rattle.lent.specs.Served.{memory, CallServed};
 use kinds::RowNo;
 use lent::Answer;
-use serve::answer;
 use serve::at;
 use sheet::rows;
 use table::TABLE;
@@ -21,18 +20,18 @@ pub fn bytes(
 {
     let n = gate::refusal(s, t, out, m);
     if 0 < n {
-        return answer::refused(n);
+        return finish::refused(n);
     }
     let owner = rows::owner_of(s, row);
     let rows::Owner::Seat(f, k) = owner else {
-        return answer::refused(6);
+        return finish::refused(6);
     };
     let seat = octets::wide(k);
     if !at::is_open(t, f, seat) {
-        return answer::refused(6);
+        return finish::refused(6);
     }
     if at::is_waiting(t, f, seat) {
-        return answer::refused(7);
+        return finish::refused(7);
     }
     serve_bytes::take(s, t, out, m, f, seat, input)
 }

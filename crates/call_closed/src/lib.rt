@@ -4,7 +4,6 @@ ghost use Rattle.lent.specs.Served.{memory, CallServed};
 use kinds::FarmNo;
 use kinds::RowNo;
 use lent::Answer;
-use serve::answer;
 use serve::at;
 use sheet::farms;
 use sheet::rows;
@@ -16,15 +15,15 @@ pub fn peer_closed(s: &[u8], t: &mut [u8; TABLE], out: &mut [u8], m: &[u8], row:
 {
     let n = gate::refusal(s, t, out, m);
     if 0 < n {
-        return answer::refused(n);
+        return finish::refused(n);
     }
     let owner = rows::owner_of(s, row);
     let rows::Owner::Seat(f, k) = owner else {
-        return answer::refused(6);
+        return finish::refused(6);
     };
     let seat = octets::wide(k);
     if !at::is_open(t, f, seat) {
-        return answer::refused(6);
+        return finish::refused(6);
     }
     serve::closed::close_row(s, t, out, f, seat)
 }
@@ -35,10 +34,10 @@ pub fn link_lost(s: &[u8], t: &mut [u8; TABLE], out: &mut [u8], m: &[u8], f: Far
 {
     let n = gate::refusal(s, t, out, m);
     if 0 < n {
-        return answer::refused(n);
+        return finish::refused(n);
     }
     if !farms::has_farm(s, f) {
-        return answer::refused(5);
+        return finish::refused(5);
     }
     serve::closed::close_farm(s, t, out, f)
 }

@@ -4,7 +4,6 @@ ghost use Rattle.lent.specs.Served.{memory, CallServed};
 use kinds::FarmNo;
 use lent::Answer;
 use octets::Found;
-use serve::answer;
 use sheet::farms;
 use table::TABLE;
 
@@ -13,17 +12,17 @@ pub fn connect(s: &[u8], t: &mut [u8; TABLE], out: &mut [u8], m: &[u8], f: FarmN
 {
     let n = gate::refusal(s, t, out, m);
     if 0 < n {
-        return answer::refused(n);
+        return finish::refused(n);
     }
     if !farms::has_farm(s, f) {
-        return answer::refused(5);
+        return finish::refused(5);
     }
     let site = site::site_of(s, f);
     let rows = octets::wide(site.quota) + 1;
     let found = serve::connect::connect_at(t, f.0 as usize, rows);
     let Found::At(seat) = found else {
-        return answer::refused(8);
+        return finish::refused(8);
     };
     let row = octets::wide(site.first) + seat;
-    answer::finish_empty(out, row as u8)
+    finish::finish_empty(out, row as u8)
 }

@@ -3,7 +3,6 @@ ghost use Rattle.model.specs.Table.{messageFrom};
 ghost use Rattle.lent.specs.Served.{memory, CallServed};
 use kinds::FarmNo;
 use lent::Answer;
-use serve::answer;
 use sheet::farms;
 use table::TABLE;
 
@@ -21,10 +20,10 @@ pub fn controller_message(
 {
     let n = gate::refusal(s, t, out, m);
     if 0 < n {
-        return answer::refused(n);
+        return finish::refused(n);
     }
     if !farms::has_farm(s, f) {
-        return answer::refused(5);
+        return finish::refused(5);
     }
     serve_controller::send(s, t, out, f, controller, tester, user)
 }

@@ -3,7 +3,6 @@ ghost use Rattle.model.specs.Table.{datagramTo};
 ghost use Rattle.lent.specs.Served.{memory, CallServed};
 use kinds::FarmNo;
 use lent::Answer;
-use serve::answer;
 use sheet::farms;
 use table::TABLE;
 
@@ -19,10 +18,10 @@ pub fn datagram(
 {
     let n = gate::refusal(s, t, out, m);
     if 0 < n {
-        return answer::refused(n);
+        return finish::refused(n);
     }
     if !farms::has_farm(s, f) {
-        return answer::refused(5);
+        return finish::refused(5);
     }
     serve_datagram::reply(s, t, out, f, input)
 }

@@ -3,7 +3,6 @@ ghost use mathlib.Core.Path.{_≡_};
 ghost use lib.ListN.{length, replicate};
 ghost use Rattle.lent.specs.Served.{memory, StartServed};
 use lent::Answer;
-use serve::answer;
 use table::TABLE;
 
 // A new farm is all zero bytes (crate table).
@@ -22,8 +21,8 @@ pub fn start(s: &[u8], t: &mut [u8; TABLE], out: &mut [u8], m: &[u8]) -> Answer
 {
     let n = gate::start_refusal(s, out, m);
     if 0 < n {
-        return answer::refused(n);
+        return finish::refused(n);
     }
     clear(t);
-    answer::finish_empty(out, answer::NO_ROW)
+    finish::finish_empty(out, finish::NO_ROW)
 }

@@ -2,7 +2,6 @@
 ghost use Rattle.model.specs.Table.{tick};
 ghost use Rattle.lent.specs.Served.{memory, CallServed};
 use lent::Answer;
-use serve::answer;
 use table::TABLE;
 
 pub fn tick(s: &[u8], t: &mut [u8; TABLE], out: &mut [u8], m: &[u8]) -> Answer
@@ -10,7 +9,7 @@ pub fn tick(s: &[u8], t: &mut [u8; TABLE], out: &mut [u8], m: &[u8]) -> Answer
 {
     let n = gate::refusal(s, t, out, m);
     if 0 < n {
-        return answer::refused(n);
+        return finish::refused(n);
     }
     serve_tick::tick_all(s, t, out)
 }

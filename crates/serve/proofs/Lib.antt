@@ -1,4 +1,3 @@
-pub mod AnswerLaws
 pub mod BlockLaws
 pub mod MovedLaws
 pub mod ServeLaws

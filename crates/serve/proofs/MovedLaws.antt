@@ -28,7 +28,7 @@ use Rattle.lent.specs.Lent.{block}
 use Rattle.lent.specs.Served.{done}
 use Rattle.serve.specs.Ready.{Ready}
 use Rattle.serve.specs.Moved.{DidAt, Moved}
-use Rattle.serve.proofs.AnswerLaws.{wrote-items}
+use Rattle.finish.proofs.AnswerLaws.{wrote-items}
 
 -- ---- the farm that a call is for
 

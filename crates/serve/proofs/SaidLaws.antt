@@ -46,7 +46,7 @@ use Rattle.lent.proofs.CallLaws.{refused-as}
 use Rattle.lent.proofs.ServedLaws.{Left, served-did}
 use Rattle.serve.specs.Ready.{Ready}
 use Rattle.serve.specs.Moved.{SaidOut, MessageOutBy, MessageOut}
-use Rattle.serve.proofs.AnswerLaws.{wrote-items}
+use Rattle.finish.proofs.AnswerLaws.{wrote-items}
 use Rattle.serve.proofs.MovedLaws.{small-room}
 use Rattle.serve.proofs.ServeLaws.{farm-goes}
 

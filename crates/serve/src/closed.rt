@@ -14,7 +14,6 @@ ghost use Rattle.closing.specs.Did.{RowsFit, Seated};
 ghost use Rattle.lent.specs.Lent.{block};
 ghost use Rattle.serve.specs.Ready.{Ready};
 ghost use Rattle.serve.specs.Moved.{DidAt, Moved};
-use crate::answer;
 use kinds::FarmNo;
 use kinds::Site;
 use lent::Answer;
@@ -49,7 +48,7 @@ pub fn close_row(s: &[u8], t: &mut [u8], out: &mut [u8], f: FarmNo, seat: usize)
     let p: &mut [u8] = &mut space;
     plan::empty(p);
     peer_closed_at(t, p, f.0 as usize, site, seat);
-    answer::finish_short(out, p, answer::NO_ROW)
+    finish::finish_short(out, p, finish::NO_ROW)
 }
 
 pub fn close_farm(s: &[u8], t: &mut [u8], out: &mut [u8], f: FarmNo) -> Answer
@@ -61,5 +60,5 @@ pub fn close_farm(s: &[u8], t: &mut [u8], out: &mut [u8], f: FarmNo) -> Answer
     let p: &mut [u8] = &mut space;
     plan::empty(p);
     link_lost_at(t, p, f.0 as usize, site);
-    answer::finish_short(out, p, answer::NO_ROW)
+    finish::finish_short(out, p, finish::NO_ROW)
 }

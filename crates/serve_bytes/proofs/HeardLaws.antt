@@ -37,7 +37,7 @@ use Rattle.lent.specs.Served.{done}
 use Rattle.lent.proofs.MoveLaws.{lent-back}
 use Rattle.serve.specs.Ready.{Ready}
 use Rattle.serve_bytes.specs.Heard.{roomAt, room, heardTaken, heardDone, OnlyRoom, HeardAt, HeardOut}
-use Rattle.serve.proofs.AnswerLaws.{wrote-items}
+use Rattle.finish.proofs.AnswerLaws.{wrote-items}
 use Rattle.serve.proofs.BlockLaws.{lentBlock, givenBack, lent-is}
 use Rattle.serve.proofs.MovedLaws.{ready-below, said-items, small-room}
 

@@ -18,7 +18,6 @@ use kinds::FarmNo;
 use kinds::Site;
 use lent::Answer;
 use plan::PLAN;
-use serve::answer;
 use sheet::rows;
 use table::BLOCK;
 
@@ -66,5 +65,5 @@ pub fn take(
     let heard = bytes_at(t, p, m, s, f, site, seat, input);
     let a = (octets::wide(site.first) + seat) * ROOM;
     let e = a + heard.long;
-    answer::finish(out, p, &m[a..e], answer::NO_ROW, heard.count)
+    finish::finish(out, p, &m[a..e], finish::NO_ROW, heard.count)
 }

@@ -16,7 +16,6 @@ use kinds::FarmNo;
 use kinds::Site;
 use lent::Answer;
 use plan::PLAN;
-use serve::answer;
 use table::BLOCK;
 
 // The farm's block is lent alone.
@@ -57,7 +56,7 @@ pub fn send(
     plan::empty(p);
     let n = message_at(t, p, s, f, site, from, to, user);
     if 0 < n {
-        return answer::refused(n);
+        return finish::refused(n);
     }
-    answer::finish(out, p, user, answer::NO_ROW, 0)
+    finish::finish(out, p, user, finish::NO_ROW, 0)
 }

@@ -17,7 +17,6 @@ use kinds::Item;
 use kinds::RowNo;
 use lent::Answer;
 use plan::PLAN;
-use serve::answer;
 use serve::at;
 use sheet::farms;
 
@@ -32,7 +31,7 @@ fn push_answer(p: &mut [u8], a: kinds::Answer)
             plan::push(
                 p,
                 Item {
-                    row: RowNo(answer::NO_ROW),
+                    row: RowNo(finish::NO_ROW),
                     version: VERSION,
                     reply: reply,
                 },
@@ -52,5 +51,5 @@ pub fn reply(s: &[u8], t: &[u8], out: &mut [u8], f: FarmNo, input: &[u8]) -> Ans
     let p: &mut [u8] = &mut space;
     plan::empty(p);
     push_answer(p, a);
-    answer::finish(out, p, farm, answer::NO_ROW, 0)
+    finish::finish(out, p, farm, finish::NO_ROW, 0)
 }

@@ -46,7 +46,7 @@ use Rattle.lent.proofs.ServedLaws.{served-did}
 use Rattle.serve.specs.Ready.{Ready, AllReady}
 use Rattle.serve.specs.Moved.{DidAt}
 use Rattle.serve_tick.specs.Ticked.{farmTick, ticksTo, Farms, TickedTo, TickedOut}
-use Rattle.serve.proofs.AnswerLaws.{wrote-items}
+use Rattle.finish.proofs.AnswerLaws.{wrote-items}
 use Rattle.serve.proofs.MovedLaws.{at-same}
 
 -- ---- one farm after the other

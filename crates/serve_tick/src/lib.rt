@@ -20,7 +20,6 @@ use kinds::FarmNo;
 use kinds::Site;
 use lent::Answer;
 use plan::PLAN;
-use serve::answer;
 use sheet::head;
 use table::BLOCK;
 
@@ -56,5 +55,5 @@ pub fn tick_all(s: &[u8], t: &mut [u8], out: &mut [u8]) -> Answer
     let p: &mut [u8] = &mut space;
     plan::empty(p);
     tick_farms(s, t, p);
-    answer::finish_short(out, p, answer::NO_ROW)
+    finish::finish_short(out, p, finish::NO_ROW)
 }

@@ -15,7 +15,7 @@ use Rattle.call_closed.proofs.link_lost.Statement.{statement}
 use Rattle.call_closed.proofs.link_lost.Tie as tie
 use Rattle.call_closed.proofs.link_lost.Reads as reads
 use Rattle.call_closed.proofs.link_lost.Lts as lts
-use Rattle.serve.proofs.answer.refused.Reads as refused-reads
+use Rattle.finish.proofs.refused.Reads as refused-reads
 use Rattle.serve.proofs.closed.close_farm.Reads as close-farm-reads
 use Rattle.gate.proofs.refusal.Reads as refusal-reads
 use Rattle.sheet.proofs.farms.has_farm.Reads as has-farm-reads

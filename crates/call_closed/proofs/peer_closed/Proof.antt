@@ -17,7 +17,7 @@ use Rattle.call_closed.proofs.peer_closed.Statement.{statement}
 use Rattle.call_closed.proofs.peer_closed.Tie as tie
 use Rattle.call_closed.proofs.peer_closed.Reads as reads
 use Rattle.call_closed.proofs.peer_closed.Lts as lts
-use Rattle.serve.proofs.answer.refused.Reads as refused-reads
+use Rattle.finish.proofs.refused.Reads as refused-reads
 use Rattle.serve.proofs.at.is_open.Reads as is-open-reads
 use Rattle.serve.proofs.closed.close_row.Reads as close-row-reads
 use Rattle.gate.proofs.refusal.Reads as refusal-reads

@@ -21,8 +21,8 @@ use Rattle.call_connect.proofs.connect.Statement.{statement}
 use Rattle.call_connect.proofs.connect.Tie as tie
 use Rattle.call_connect.proofs.connect.Reads as reads
 use Rattle.call_connect.proofs.connect.Lts as lts
-use Rattle.serve.proofs.answer.finish_empty.Reads as finish-empty-reads
-use Rattle.serve.proofs.answer.refused.Reads as refused-reads
+use Rattle.finish.proofs.finish_empty.Reads as finish-empty-reads
+use Rattle.finish.proofs.refused.Reads as refused-reads
 use Rattle.serve.proofs.connect.connect_at.Reads as connect-at-reads
 use Rattle.gate.proofs.refusal.Reads as refusal-reads
 use Rattle.octets.proofs.wide.Reads as wide-reads

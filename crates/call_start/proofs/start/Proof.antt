@@ -12,8 +12,8 @@ use Rattle.call_start.proofs.start.Statement.{statement}
 use Rattle.call_start.proofs.start.Tie as tie
 use Rattle.call_start.proofs.start.Reads as reads
 use Rattle.call_start.proofs.start.Lts as lts
-use Rattle.serve.proofs.answer.finish_empty.Reads as finish-empty-reads
-use Rattle.serve.proofs.answer.refused.Reads as refused-reads
+use Rattle.finish.proofs.finish_empty.Reads as finish-empty-reads
+use Rattle.finish.proofs.refused.Reads as refused-reads
 use Rattle.gate.proofs.start_refusal.Reads as start-refusal-reads
 use Rattle.call_start.proofs.clear.Reads as clear-reads
 

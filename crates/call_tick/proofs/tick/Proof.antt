@@ -12,7 +12,7 @@ use Rattle.call_tick.proofs.tick.Statement.{statement}
 use Rattle.call_tick.proofs.tick.Tie as tie
 use Rattle.call_tick.proofs.tick.Reads as reads
 use Rattle.call_tick.proofs.tick.Lts as lts
-use Rattle.serve.proofs.answer.refused.Reads as refused-reads
+use Rattle.finish.proofs.refused.Reads as refused-reads
 use Rattle.gate.proofs.refusal.Reads as refusal-reads
 use Rattle.serve_tick.proofs.tick_all.Reads as tick-all-reads
 

@@ -2,7 +2,7 @@
 -- Assumes nothing.
 use mathlib.Core.List.{[]}
 use Rattle.model.specs.Move.{noRow}
-use Rattle.serve.proofs.AnswerLaws.{wrote-items}
+use Rattle.finish.proofs.AnswerLaws.{wrote-items}
 use Rattle.serve.proofs.MovedLaws.{small-room}
 use Rattle.serve_tick.proofs.TickLaws.{ticks-small, ticked-items}
 use borrow.Author.Needs.{needs}
@@ -10,7 +10,7 @@ use Rattle.serve_tick.proofs.tick_all.Statement.{statement}
 use Rattle.serve_tick.proofs.tick_all.Tie as tie
 use Rattle.serve_tick.proofs.tick_all.Reads as reads
 use Rattle.serve_tick.proofs.tick_all.Lts as lts
-use Rattle.serve.proofs.answer.finish_short.Reads as finish-short-reads
+use Rattle.finish.proofs.finish_short.Reads as finish-short-reads
 use Rattle.serve_tick.proofs.tick_farms.Reads as tick-farms-reads
 use Rattle.plan.proofs.empty.Reads as empty-reads
 

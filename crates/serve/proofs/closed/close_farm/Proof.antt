@@ -10,7 +10,7 @@ use Rattle.serve.proofs.closed.close_farm.Statement.{statement}
 use Rattle.serve.proofs.closed.close_farm.Tie as tie
 use Rattle.serve.proofs.closed.close_farm.Reads as reads
 use Rattle.serve.proofs.closed.close_farm.Lts as lts
-use Rattle.serve.proofs.answer.finish_short.Reads as finish-short-reads
+use Rattle.finish.proofs.finish_short.Reads as finish-short-reads
 use Rattle.serve.proofs.closed.link_lost_at.Reads as link-lost-at-reads
 use Rattle.plan.proofs.empty.Reads as empty-reads
 use Rattle.site.proofs.site_of.Reads as site-of-reads

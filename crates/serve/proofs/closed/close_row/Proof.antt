@@ -10,7 +10,7 @@ use Rattle.serve.proofs.closed.close_row.Statement.{statement}
 use Rattle.serve.proofs.closed.close_row.Tie as tie
 use Rattle.serve.proofs.closed.close_row.Reads as reads
 use Rattle.serve.proofs.closed.close_row.Lts as lts
-use Rattle.serve.proofs.answer.finish_short.Reads as finish-short-reads
+use Rattle.finish.proofs.finish_short.Reads as finish-short-reads
 use Rattle.serve.proofs.closed.peer_closed_at.Reads as peer-closed-at-reads
 use Rattle.plan.proofs.empty.Reads as empty-reads
 use Rattle.site.proofs.site_of.Reads as site-of-reads

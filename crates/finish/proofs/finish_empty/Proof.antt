@@ -1,13 +1,13 @@
 -- `answer::finish_empty` meets its contract.
 -- Assumes nothing.
 use mathlib.Core.List.{[]}
-use Rattle.serve.proofs.AnswerLaws.{room-none, wrote-items}
+use Rattle.finish.proofs.AnswerLaws.{room-none, wrote-items}
 use borrow.Author.Needs.{needs}
-use Rattle.serve.proofs.answer.finish_empty.Statement.{statement}
-use Rattle.serve.proofs.answer.finish_empty.Tie as tie
-use Rattle.serve.proofs.answer.finish_empty.Reads as reads
-use Rattle.serve.proofs.answer.finish_empty.Lts as lts
-use Rattle.serve.proofs.answer.finish_short.Reads as finish-short-reads
+use Rattle.finish.proofs.finish_empty.Statement.{statement}
+use Rattle.finish.proofs.finish_empty.Tie as tie
+use Rattle.finish.proofs.finish_empty.Reads as reads
+use Rattle.finish.proofs.finish_empty.Lts as lts
+use Rattle.finish.proofs.finish_short.Reads as finish-short-reads
 use Rattle.plan.proofs.empty.Reads as empty-reads
 
 slice-aggregate-p : tie.Need-slice-aggregate-p

@@ -2,10 +2,10 @@
 -- Assumes nothing.
 use mathlib.Core.Path.{refl}
 use Rattle.model.specs.Move.{noRow}
-use Rattle.serve.proofs.answer.refused.Statement.{statement}
-use Rattle.serve.proofs.answer.refused.Tie as tie
-use Rattle.serve.proofs.answer.refused.Reads as reads
-use Rattle.serve.proofs.answer.refused.Lts as lts
+use Rattle.finish.proofs.refused.Statement.{statement}
+use Rattle.finish.proofs.refused.Tie as tie
+use Rattle.finish.proofs.refused.Reads as reads
+use Rattle.finish.proofs.refused.Lts as lts
 
 returns : tie.Need-returns
 unfolding noRow
