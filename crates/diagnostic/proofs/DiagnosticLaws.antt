@@ -7,7 +7,7 @@ use mathlib.Core.List.{List, [], _∷_}
 use borrow.Author.Tests.{eq-eqb, ne-eqb}
 use Rattle.kinds.specs.declared.Item.{Item}
 use Rattle.kinds.specs.declared.Reply.the-variants.{Ack, DiagnosticNack, HandOn}
-use Rattle.wire.specs.declared.payload.Ends.{Ends}
+use Rattle.payload.specs.declared.Ends.{Ends}
 use Rattle.sheet.specs.declared.find.Known.{Known}
 use Rattle.sheet.specs.declared.find.Found.the-variants.{Is, Nobody}
 use Rattle.sheet.specs.Sheet.{targetsOf}

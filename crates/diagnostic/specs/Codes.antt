@@ -6,7 +6,7 @@ use lib.Dec.{eqb}
 use Rattle.octets.specs.Choice.{pick}
 use Rattle.kinds.specs.declared.Item.{Item}
 use Rattle.kinds.specs.declared.Reply.the-variants.{Ack, DiagnosticNack, HandOn}
-use Rattle.wire.specs.declared.payload.Ends.{Ends}
+use Rattle.payload.specs.declared.Ends.{Ends}
 use Rattle.model.specs.FarmSheet.{FarmSheet, TargetIs, stranger, unreachable, reachable}
 use Rattle.model.specs.Farm.{says}
 

@@ -18,7 +18,7 @@ use kinds::Site;
 use rowwork::refuse;
 use sheet::find;
 use sheet::find::Found;
-use wire::payload::Ends;
+use payload::Ends;
 
 // "8002 with 00"
 const GOES_ON: u8 = 0x00;

@@ -19,9 +19,9 @@ use Rattle.kinds.specs.declared.Place.{Place}
 use Rattle.kinds.specs.declared.Decision.{Decision}
 use Rattle.kinds.specs.declared.Decision.the-variants.{Now, Ask}
 use Rattle.kinds.specs.declared.Site.{Site}
-use Rattle.wire.specs.declared.payload.Ends.{Ends}
+use Rattle.payload.specs.declared.Ends.{Ends}
 use Rattle.wire.specs.Header.{closes, mostPayload}
-use Rattle.wire.specs.Payload.{requestIn, endsIn}
+use Rattle.payload.specs.Payload.{requestIn, endsIn}
 use Rattle.model.specs.FarmSheet.{FarmSheet, TargetIs, stranger, unreachable, reachable}
 use Rattle.model.specs.Row.{noHead, rowAt, activeAs, waitingRow, heardState}
 use Rattle.model.specs.Stream.{streamOf, isStored, Event, inputEnded, wrong, finished, skipped, Taken, endedBy}

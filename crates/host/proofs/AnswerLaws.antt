@@ -11,7 +11,7 @@ use Rattle.kinds.specs.declared.Reply.the-variants.{Activation}
 use Rattle.kinds.specs.declared.Request.{Request}
 use Rattle.layout.specs.Layout.{ackBytes}
 use Rattle.wire.specs.Header.{ourVersion}
-use Rattle.wire.specs.Payload.{endsIn}
+use Rattle.payload.specs.Payload.{endsIn}
 use Rattle.sheet.specs.declared.rows.Owner.the-variants.{Seat}
 use Rattle.sheet.specs.Sheet.{farmNo}
 use Rattle.sheet.specs.Rows.{ownerOf}

@@ -11,7 +11,7 @@ use Rattle.kinds.specs.declared.Check.{Check}
 use Rattle.kinds.specs.declared.Decision.the-variants.{Ask}
 use Rattle.layout.specs.Layout.{ackBytes, activationBytes}
 use Rattle.wire.specs.Header.{ourVersion}
-use Rattle.wire.specs.Payload.{endsIn, requestIn}
+use Rattle.payload.specs.Payload.{endsIn, requestIn}
 use Rattle.outsheet.specs.Sheet.{Entry, entry, sheetOf}
 use Rattle.outsheet.specs.Replies.{send, handOn}
 use Rattle.model.specs.FarmSheet.{FarmSheet}

@@ -7,7 +7,7 @@ use borrow.Author.Tests.{eq-eqb, ne-eqb}
 use Rattle.kinds.specs.declared.Fault.{Fault}
 use Rattle.kinds.specs.declared.Event.{Event}
 use Rattle.kinds.specs.declared.Event.the-variants.{Wrong}
-use Rattle.wire.specs.Payload.{requestIn, addressIn, endsIn}
+use Rattle.payload.specs.Payload.{requestIn, addressIn, endsIn}
 use Rattle.model.specs.FarmSheet.{FarmSheet}
 use Rattle.model.specs.Farm.{Farm, quietly, andThen, closed}
 use Rattle.model.specs.Line.{marked}

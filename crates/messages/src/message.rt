@@ -16,7 +16,6 @@ use crate::fault;
 use kinds::Event;
 use kinds::FarmNo;
 use kinds::Site;
-use wire::payload;
 
 // By the message's type.
 pub fn message(

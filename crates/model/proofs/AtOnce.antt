@@ -16,7 +16,7 @@ use Rattle.sheet.specs.declared.rows.Owner.the-variants.{Seat}
 use Rattle.sheet.specs.Sheet.{farmNo}
 use Rattle.sheet.specs.Rows.{ownerOf}
 use Rattle.wire.specs.Header.{mostPayload, headerAt}
-use Rattle.wire.specs.Payload.{requestIn}
+use Rattle.payload.specs.Payload.{requestIn}
 use Rattle.model.specs.FarmSheet.{FarmSheet, slotSheet}
 use Rattle.model.specs.Row.{rowAt}
 use Rattle.model.specs.Stream.{Event, Taken, finished}

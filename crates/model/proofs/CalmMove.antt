@@ -22,9 +22,9 @@ use Rattle.kinds.specs.declared.Check.{Check}
 use Rattle.kinds.specs.declared.Check.the-variants.{One, All}
 use Rattle.kinds.specs.declared.Decision.{Decision}
 use Rattle.kinds.specs.declared.Decision.the-variants.{Now, Ask}
-use Rattle.wire.specs.declared.payload.Ends.{Ends}
+use Rattle.payload.specs.declared.Ends.{Ends}
 use Rattle.wire.specs.Header.{closes}
-use Rattle.wire.specs.Payload.{requestIn, addressIn, endsIn}
+use Rattle.payload.specs.Payload.{requestIn, addressIn, endsIn}
 use Rattle.model.specs.FarmSheet.{FarmSheet, TargetIs, stranger, unreachable, reachable}
 use Rattle.kinds.specs.Clock.{clockOf}
 use Rattle.model.specs.Row.{freeRow, freshRow, activeRow, rowAt, isFreeState, isFree, isOpen, isWaitingState, isWaiting, isActiveState, isActive, activeAsState, activeAs}

@@ -22,10 +22,10 @@ use Rattle.kinds.specs.declared.RowState.{RowState}
 use Rattle.kinds.specs.declared.RowState.the-variants.{Free, Fresh, Waiting, Active}
 use Rattle.kinds.specs.declared.Decision.{Decision}
 use Rattle.kinds.specs.declared.Decision.the-variants.{Now, Ask}
-use Rattle.wire.specs.declared.payload.Ends.{Ends}
+use Rattle.payload.specs.declared.Ends.{Ends}
 use Rattle.wire.specs.Header.{headerAt, closes}
 use Rattle.datagram.specs.Datagram.{datagramVerdict, payloadOf, ifNamed, answerBy, answerFor, answerTo}
-use Rattle.wire.specs.Payload.{requestIn}
+use Rattle.payload.specs.Payload.{requestIn}
 use Rattle.model.specs.FarmSheet.{FarmSheet, TargetIs, stranger, unreachable, reachable}
 use Rattle.model.specs.Row.{rowAt, activeAs, isOpen, isFree, atLimit}
 use Rattle.model.specs.Stream.{Event, inputEnded, wrong, finished, skipped, Taken}

@@ -24,7 +24,7 @@ use Rattle.kinds.specs.declared.RowState.the-variants.{Free, Fresh, Waiting, Ac
 use Rattle.kinds.specs.declared.Clock.{Clock}
 use Rattle.kinds.specs.declared.Decision.{Decision}
 use Rattle.kinds.specs.declared.Decision.the-variants.{Now, Ask}
-use Rattle.wire.specs.declared.payload.Ends.{Ends as Both}
+use Rattle.payload.specs.declared.Ends.{Ends as Both}
 use Rattle.wire.specs.Header.{closes}
 use Rattle.model.specs.FarmSheet.{FarmSheet, TargetIs, stranger, unreachable, reachable}
 use Rattle.kinds.specs.Clock.{checkLimit, mostTicks, stepped, clockOf}

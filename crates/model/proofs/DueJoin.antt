@@ -18,7 +18,7 @@ use Rattle.kinds.specs.declared.Check.{Check}
 use Rattle.kinds.specs.declared.Decision.{Decision}
 use Rattle.kinds.specs.declared.Decision.the-variants.{Now, Ask}
 use Rattle.kinds.specs.declared.HeadVerdict.the-variants.{Pending}
-use Rattle.wire.specs.Payload.{requestIn}
+use Rattle.payload.specs.Payload.{requestIn}
 use Rattle.model.specs.FarmSheet.{FarmSheet}
 use Rattle.kinds.specs.Clock.{checkLimit}
 use Rattle.model.specs.Row.{rowAt, waitingRow, isOpenState, isWaitingState, isActiveState, activeAsState, isActive, activeAs, wanted, heardState}

@@ -19,9 +19,9 @@ use Rattle.kinds.specs.declared.Decision.{Decision}
 use Rattle.kinds.specs.declared.Decision.the-variants.{Now, Ask}
 use Rattle.kinds.specs.declared.Item.{Item}
 use Rattle.kinds.specs.declared.Reply.the-variants.{Nack, Ack, DiagnosticNack, HandOn}
-use Rattle.wire.specs.declared.payload.Ends.{Ends as Parties}
+use Rattle.payload.specs.declared.Ends.{Ends as Parties}
 use Rattle.wire.specs.Header.{headerAt, mostPayload, codeOf, closes}
-use Rattle.wire.specs.Payload.{requestIn, endsIn}
+use Rattle.payload.specs.Payload.{requestIn, endsIn}
 use Rattle.model.specs.FarmSheet.{FarmSheet, TargetIs, stranger, unreachable, reachable}
 use Rattle.model.specs.Row.{rowAt, activeAs, activeAsState, heardState}
 use Rattle.model.specs.Stream.{Event, inputEnded, wrong, finished, skipped, Taken}

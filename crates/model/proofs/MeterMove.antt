@@ -28,8 +28,8 @@ use Rattle.kinds.specs.declared.Answer.the-variants.{Nothing as NoAnswer, With}
 use Rattle.kinds.specs.declared.DatagramVerdict.{DatagramVerdict}
 use Rattle.kinds.specs.declared.DatagramVerdict.the-variants.{NotAnswered, Passes, Wrong}
 use Rattle.wire.specs.Header.{headerAt, closes}
-use Rattle.wire.specs.Payload.{requestIn, addressIn, endsIn}
-use Rattle.wire.specs.declared.payload.Ends.{Ends}
+use Rattle.payload.specs.Payload.{requestIn, addressIn, endsIn}
+use Rattle.payload.specs.declared.Ends.{Ends}
 use Rattle.datagram.specs.Datagram.{datagramVerdict, payloadOf, ifNamed, answerBy, answerFor, answerTo}
 use Rattle.model.specs.FarmSheet.{FarmSheet, TargetIs, stranger, unreachable, reachable}
 use Rattle.kinds.specs.Clock.{clockOf}

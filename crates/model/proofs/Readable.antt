@@ -9,7 +9,7 @@ use native.Mathlib.Omega.{arith}
 use lib.ListN.{length, getD}
 use Rattle.kinds.specs.declared.Request.{Request}
 use Rattle.wire.specs.Header.{mostPayload, headerAt}
-use Rattle.wire.specs.Payload.{requestIn}
+use Rattle.payload.specs.Payload.{requestIn}
 use Rattle.model.specs.FarmSheet.{slotSheet}
 use Rattle.kinds.specs.Clock.{checkLimit}
 use Rattle.model.specs.Row.{rowAt}

@@ -16,9 +16,9 @@ use Rattle.kinds.specs.declared.RowState.{RowState}
 use Rattle.kinds.specs.declared.RowState.the-variants.{Free, Fresh, Waiting, Active}
 use Rattle.kinds.specs.declared.Row.{Row}
 use Rattle.kinds.specs.declared.Decision.{Decision}
-use Rattle.wire.specs.declared.payload.Ends.{Ends}
+use Rattle.payload.specs.declared.Ends.{Ends}
 use Rattle.wire.specs.Header.{closes}
-use Rattle.wire.specs.Payload.{requestIn, addressIn, endsIn}
+use Rattle.payload.specs.Payload.{requestIn, addressIn, endsIn}
 use Rattle.model.specs.FarmSheet.{FarmSheet, TargetIs, stranger, unreachable, reachable}
 use Rattle.kinds.specs.Clock.{generalLimit, clockOf}
 use Rattle.model.specs.Row.{waitingRow, activeRow, rowAt, isOpenState, isOpen, isWaitingState, isWaiting, isActiveState, isActive, activeAsState, activeAs, atLimitState, heardState}

@@ -24,9 +24,9 @@ use Rattle.kinds.specs.declared.Decision.{Decision}
 use Rattle.kinds.specs.declared.Decision.the-variants.{Now, Ask}
 use Rattle.kinds.specs.declared.HeadVerdict.{HeadVerdict}
 use Rattle.kinds.specs.declared.HeadVerdict.the-variants.{Pending, Answer, RunOut}
-use Rattle.wire.specs.declared.payload.Ends.{Ends}
+use Rattle.payload.specs.declared.Ends.{Ends}
 use Rattle.wire.specs.Header.{closes}
-use Rattle.wire.specs.Payload.{requestIn, endsIn}
+use Rattle.payload.specs.Payload.{requestIn, endsIn}
 use Rattle.model.specs.FarmSheet.{FarmSheet, TargetIs, stranger, unreachable, reachable}
 use Rattle.model.specs.Row.{freeRow, waitingRow, rowAt, isFree, isOpenState, isOpen, isWaitingState, activeAs, wanted, atLimit}
 use Rattle.model.specs.Stream.{Event, inputEnded, wrong, finished, skipped, Taken}

@@ -17,9 +17,9 @@ use Rattle.kinds.specs.declared.Request.{Request}
 use Rattle.kinds.specs.declared.Row.{Row}
 use Rattle.kinds.specs.declared.RowState.the-variants.{Free, Waiting, Active}
 use Rattle.kinds.specs.declared.Reply.the-variants.{Nack, Activation, DiagnosticNack}
-use Rattle.wire.specs.declared.payload.Ends.{Ends}
+use Rattle.payload.specs.declared.Ends.{Ends}
 use Rattle.wire.specs.Header.{closes, codeOf}
-use Rattle.wire.specs.Payload.{requestIn, addressIn, endsIn}
+use Rattle.payload.specs.Payload.{requestIn, addressIn, endsIn}
 use Rattle.model.specs.FarmSheet.{FarmSheet, TargetIs, stranger, unreachable, reachable}
 use Rattle.kinds.specs.Clock.{clockOf}
 use Rattle.model.specs.Row.{rowOf, rowAt, wanted, waitingRow, activeAs, isOpen, atLimit}

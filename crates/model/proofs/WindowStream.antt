@@ -18,7 +18,7 @@ use Rattle.kinds.specs.declared.Verdict.the-variants.{Passes, Wrong}
 use Rattle.kinds.specs.declared.Place.{Place}
 use Rattle.kinds.specs.declared.Place.the-variants.{Header, Reading, Skipping}
 use Rattle.wire.specs.Header.{headerSize, headerAt, verdictOf, closes}
-use Rattle.wire.specs.Payload.{requestIn, addressIn, endsIn}
+use Rattle.payload.specs.Payload.{requestIn, addressIn, endsIn}
 use Rattle.model.specs.FarmSheet.{FarmSheet}
 use Rattle.model.specs.Row.{noHead, boundary}
 use Rattle.model.specs.Stream.{streamOf, Event, inputEnded, wrong, finished, skipped, Fed, more, ends, isStored, afterWrong, judged, feedAt, feed, Taken, taken, oneMore, takesBy, takes}

@@ -12,9 +12,9 @@ use Rattle.kinds.specs.declared.Row.{Row}
 use Rattle.kinds.specs.declared.Decision.{Decision}
 use Rattle.kinds.specs.declared.Decision.the-variants.{Now, Ask}
 use Rattle.kinds.specs.declared.Reply.the-variants.{Nack, Ack, DiagnosticNack, HandOn}
-use Rattle.wire.specs.declared.payload.Ends.{Ends}
+use Rattle.payload.specs.declared.Ends.{Ends}
 use Rattle.wire.specs.Header.{codeOf, closes}
-use Rattle.wire.specs.Payload.{requestIn, addressIn, endsIn}
+use Rattle.payload.specs.Payload.{requestIn, addressIn, endsIn}
 use Rattle.model.specs.FarmSheet.{FarmSheet, TargetIs, stranger, unreachable, reachable}
 use Rattle.model.specs.Row.{rowAt, activeAs, heardState}
 use Rattle.model.specs.Stream.{Stream, streamOf, isStored, Event, inputEnded, wrong, finished, skipped, Taken, takes, endedBy}

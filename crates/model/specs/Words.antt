@@ -14,7 +14,7 @@ use Rattle.kinds.specs.declared.Check.{Check}
 use Rattle.kinds.specs.declared.Decision.the-variants.{Now, Ask}
 use Rattle.kinds.specs.declared.HeadVerdict.the-variants.{Pending}
 use Rattle.wire.specs.Header.{ourVersion}
-use Rattle.wire.specs.Payload.{requestIn}
+use Rattle.payload.specs.Payload.{requestIn}
 use Rattle.sheet.specs.declared.rows.Owner.the-variants.{Seat}
 use Rattle.sheet.specs.Sheet.{farmCount, farmNo}
 use Rattle.sheet.specs.Rows.{ownerOf}

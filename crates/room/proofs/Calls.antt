@@ -16,9 +16,9 @@ use Rattle.kinds.specs.declared.Row.{Row}
 use Rattle.kinds.specs.declared.Item.{Item}
 use Rattle.kinds.specs.declared.Decision.{Decision}
 use Rattle.kinds.specs.declared.Decision.the-variants.{Now, Ask}
-use Rattle.wire.specs.declared.payload.Ends.{Ends as Parties}
+use Rattle.payload.specs.declared.Ends.{Ends as Parties}
 use Rattle.wire.specs.Header.{closes}
-use Rattle.wire.specs.Payload.{requestIn, addressIn, endsIn}
+use Rattle.payload.specs.Payload.{requestIn, addressIn, endsIn}
 use Rattle.model.specs.FarmSheet.{FarmSheet, TargetIs, stranger, unreachable, reachable}
 use Rattle.model.specs.Row.{waitingRow, rowAt, isOpenState, isOpen, activeAs, olderState, older, atLimit}
 use Rattle.model.specs.Stream.{Event, inputEnded, wrong, finished, skipped, Taken}

@@ -23,9 +23,9 @@ use Rattle.kinds.specs.declared.Place.the-variants.{Header, Reading, Skipping}
 use Rattle.kinds.specs.declared.Item.{Item}
 use Rattle.kinds.specs.declared.Reply.{Reply}
 use Rattle.kinds.specs.declared.Reply.the-variants.{Nack, DiagnosticNack}
-use Rattle.wire.specs.declared.payload.Ends.{Ends}
+use Rattle.payload.specs.declared.Ends.{Ends}
 use Rattle.wire.specs.Header.{headerSize, headerAt, verdictOf, codeOf, closes, mostPayload}
-use Rattle.wire.specs.Payload.{requestIn, endsIn}
+use Rattle.payload.specs.Payload.{requestIn, endsIn}
 use Rattle.wire.proofs.HeaderLaws.{passes-all}
 use Rattle.outsheet.specs.Replies.{isLong}
 use Rattle.model.specs.FarmSheet.{FarmSheet, TargetIs, stranger, unreachable, reachable}

@@ -6,7 +6,7 @@ use Prim.Native.Nat.{ℕ}
 use native.Mathlib.Omega.{arith}
 use lib.ListN.{take}
 use Rattle.kinds.specs.declared.Request.{Request}
-use Rattle.wire.specs.declared.payload.Ends.{Ends}
+use Rattle.payload.specs.declared.Ends.{Ends}
 use Rattle.model.specs.FarmSheet.{FarmSheet, farmSheet}
 use Rattle.model.specs.Farm.{Farm, quietly}
 use Rattle.model.specs.Line.{marked}

@@ -6,8 +6,8 @@ use denote.Ref.{now}
 use lib.ListN.{length, drop, length-drop}
 use lib.Seq.{take-all}
 use borrow.Author.Needs.{needs}
-use Rattle.wire.proofs.payload.user_data.Statement.{statement}
-use Rattle.wire.proofs.payload.user_data.Tie as tie
+use Rattle.payload.proofs.user_data.Statement.{statement}
+use Rattle.payload.proofs.user_data.Tie as tie
 
 sub-result : tie.Need-sub-result
 sub-result c = search needs

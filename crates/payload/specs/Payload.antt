@@ -5,7 +5,7 @@ use mathlib.Core.List.{List}
 use lib.ListN.{getD, drop}
 use Rattle.octets.specs.Numbers.{u16At}
 use Rattle.kinds.specs.declared.Request.{Request}
-use Rattle.wire.specs.declared.payload.Ends.{Ends}
+use Rattle.payload.specs.declared.Ends.{Ends}
 
 -- "Request: address u16, type u8, four reserved bytes, perhaps four more; all after the type are ignored."
 abbrev pub requestIn : List ℕ → Request

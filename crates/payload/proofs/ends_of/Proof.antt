@@ -1,8 +1,8 @@
 -- `wire::payload::ends_of` meets its contract: each field is what was read.
 -- Assumes nothing.
 use borrow.Author.Needs.{needs}
-use Rattle.wire.proofs.payload.ends_of.Statement.{statement}
-use Rattle.wire.proofs.payload.ends_of.Tie as tie
+use Rattle.payload.proofs.ends_of.Statement.{statement}
+use Rattle.payload.proofs.ends_of.Tie as tie
 
 read16-requires : tie.Need-read16-requires
 read16-requires c κs = search needs

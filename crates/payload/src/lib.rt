@@ -3,7 +3,7 @@ use kinds::Request;
 ghost use mathlib.Core.Path.{_≡_};
 ghost use Prim.Native.Nat.{_≤_};
 ghost use lib.ListN.{length};
-ghost use Rattle.wire.specs.Payload.{requestIn, addressIn, endsIn, userDataIn};
+ghost use Rattle.payload.specs.Payload.{requestIn, addressIn, endsIn, userDataIn};
 
 // The two ends of a diagnostic message.
 pub struct Ends {
