@@ -15,10 +15,10 @@ use closing::say;
 use kinds::FarmNo;
 use kinds::Reply;
 use kinds::Site;
+use payload::Ends;
 use rowwork::refuse;
 use sheet::find;
 use sheet::find::Found;
-use payload::Ends;
 
 // "8002 with 00"
 const GOES_ON: u8 = 0x00;

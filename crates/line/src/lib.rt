@@ -1,2 +1,2 @@
-// A farm's line of waiting rows: settled after any change, joined, left; and the mark of a row that answered.
+// A farm's line of waiting rows, settled after any change.
 pub mod settle; // settle.rt: heads that have their answer leave

@@ -32,7 +32,7 @@ pub fn say_farms(text: &mut [u8], used: usize, in_words: bool, s: &[u8], t: &[u8
     let mut at = used;
     let mut f: usize = 0;
     while f < n {
-        let m = gateway::meters(t, FarmNo(f as u8));
+        let m = call_meters::meters(t, FarmNo(f as u8));
         at = say_farm(text, at, in_words, f, m);
         f += 1;
     }

@@ -1,2 +1,2 @@
-// What comes in: the table of types, the verdict on a header, and what stands in the payloads that the core reads.
+// What comes in: the verdict on a header.
 pub mod header;
