@@ -5,6 +5,7 @@ ghost use lib.ListN.{length};
 ghost use Rattle.octets.specs.Search.{firstAt, countIf};
 ghost use Rattle.kinds.specs.declared.Decision.the-variants.{Ask};
 ghost use Rattle.model.specs.Row.{rowAt, isActive, isActiveState, activeAs, activeAsState, wanted, wantedBy};
+ghost use Rattle.model.specs.RuleTest.{isPending};
 ghost use Rattle.model.specs.Line.{byPlaces, socketRules, asks, isSilent, allAnswered, refusalOf, verdictBy, headVerdict};
 ghost use Rattle.table.specs.Layout.{seats, blockSize};
 ghost use Rattle.table.specs.Block.{farmOf};
@@ -213,5 +214,16 @@ pub fn head_verdict(b: &[u8], site: Site, head: usize) -> HeadVerdict
     match d {
         Decision::Now(code) => HeadVerdict::Answer(code),
         Decision::Ask(check) => check_verdict(b, check),
+    }
+}
+
+// The head's check goes on.
+pub fn is_pending(v: HeadVerdict) -> bool
+    ensures { λ r. ⌜ r ≡ isPending v ⌝ }
+{
+    match v {
+        HeadVerdict::Pending => true,
+        HeadVerdict::Answer(_) => false,
+        HeadVerdict::RunOut(_) => false,
     }
 }

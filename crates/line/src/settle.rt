@@ -8,21 +8,9 @@ ghost use Rattle.plan.specs.Plan.{PlanOk};
 ghost use Rattle.table.specs.Block.{farmOf, Whole};
 ghost use Rattle.decide.specs.SiteSheet.{siteSheet};
 ghost use Rattle.closing.specs.Did.{RowsFit, Seated, Did};
-ghost use Rattle.line_join.specs.Verdict.{isPending};
-use kinds::HeadVerdict;
 use kinds::Site;
 use rowwork::answer;
 use rowwork::check;
-
-fn is_pending(v: HeadVerdict) -> bool
-    ensures { λ r. ⌜ r ≡ isPending v ⌝ }
-{
-    match v {
-        HeadVerdict::Pending => true,
-        HeadVerdict::Answer(_) => false,
-        HeadVerdict::RunOut(_) => false,
-    }
-}
 
 fn decide_head(b: &mut [u8], p: &mut [u8], site: Site)
     requires { ⌜ Seated (farmOf (now b) .line) × RowsFit site × Whole (now b) × PlanOk (now p) ⌝ }
@@ -34,7 +22,7 @@ fn decide_head(b: &mut [u8], p: &mut [u8], site: Site)
     }
     let head = table_line::seat_at(b, 0);
     let v = decide::head_verdict(b, site, head);
-    if is_pending(v) {
+    if decide::is_pending(v) {
         return;
     }
     let a = decide::wanted(b, head);

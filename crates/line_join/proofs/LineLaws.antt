@@ -15,13 +15,13 @@ use Rattle.kinds.specs.declared.HeadVerdict.the-variants.{Pending, Answer, RunO
 use Rattle.model.specs.FarmSheet.{FarmSheet}
 use Rattle.model.specs.Row.{rowAt, waitingRow, activeAs, wanted}
 use Rattle.model.specs.Farm.{Farm, Done, quietly, andThen, withRow, withLine, withMarks, closed, closedWhere}
+use Rattle.model.specs.RuleTest.{isPending}
 use Rattle.model.specs.Line.{accepted, isSilent, answered, started, advanced, socketRules, headVerdict, serve, settleLine, isEmpty, joined, without, leftBy, left, askedBy, askedIn, isAsked, marked}
 use Rattle.model.proofs.Cases.{pick-case}
 use Rattle.model.proofs.Seats.{closed-line, closings-keep}
 use Rattle.model.proofs.Settling.{advanced-farm}
 use Rattle.closing.specs.Did.{Seated}
 use Rattle.rowwork.specs.Acted.{acted}
-use Rattle.line_join.specs.Verdict.{isPending}
 
 -- ---- seats
 

@@ -26,6 +26,7 @@ use Rattle.model.specs.Line.{isAsked, isMarked, headVerdict, isEmpty, st
 use Rattle.model.specs.Bytes.{heardRow, heard}
 use Rattle.model.specs.Move.{clockRun, aged}
 use Rattle.model.specs.Rule.{HeadKeeps}
+use Rattle.model.specs.Words.{tickSettles}
 use Rattle.model.proofs.Cases.{pick-case, split}
 use Rattle.model.proofs.Rows.{row-set, row-map, row-freed}
 use Rattle.model.proofs.Seats.{closings-keep}
@@ -256,22 +257,18 @@ ticking-closed own f seat x t k =
     other i w e =
         limit-waits (rowAt (x .rows) seat .state) t (subst (λ (s : ℕ). isWaiting (rowAt (x .rows) s) ≡ true) e (k .waits i w))
 
--- the farm that a tick settles
-abbrev pub ticking : FarmSheet → Farm → Farm
-ticking own f = closedWhere own (λ seat r. atLimit r) (aged (clockRun (f .line) f)) .farm
-
-ticking-keeps : (own : FarmSheet) (f : Farm) → Ticking f (ticking own f)
+ticking-keeps : (own : FarmSheet) (f : Farm) → Ticking f (tickSettles own f)
 ticking-keeps own f =
     closings-keep own (λ seat r. atLimit r) (Ticking f) (aged (clockRun (f .line) f)) (ticking-aged f (f .line) refl)
     (λ i x t k. ticking-closed own f i x t k)
 
 module _ {own : FarmSheet} {f : Farm} (k : Ready own f) where
   -- A TICK moves the clock and the ages on, and closes rows at their limit.
-  pub ticking-asked : (head : ℕ) (rest : List ℕ) → f .line ≡ head ∷ rest → Stays own f (ticking own f) head
+  pub ticking-asked : (head : ℕ) (rest : List ℕ) → f .line ≡ head ∷ rest → Stays own f (tickSettles own f) head
   ticking-asked head rest e =
-      no-more k (ticking own f) head (ticking-keeps own f .wants head (k .headWaits head rest e)) (ticking-keeps own f .noMore)
+      no-more k (tickSettles own f) head (ticking-keeps own f .wants head (k .headWaits head rest e)) (ticking-keeps own f .noMore)
 
-  pub ticking-handed : Handed own f (ticking own f)
+  pub ticking-handed : Handed own f (tickSettles own f)
   ticking-handed =
-      line-stays k (ticking own f) (ticking-keeps own f .line) (ticking-keeps own f .clock)
+      line-stays k (tickSettles own f) (ticking-keeps own f .line) (ticking-keeps own f .clock)
       (λ i m. k .calm .marksAsked i (subst (λ (l : List Bool). isMarked l i ≡ true) (ticking-keeps own f .marks) m)) ticking-asked

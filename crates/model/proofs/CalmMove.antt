@@ -35,25 +35,15 @@ use Rattle.model.specs.Bytes.{decidedBy, requested, toTarget, diagnosed,
 use Rattle.model.specs.Move.{Own, connect, bytes, peerClosed, linkLost, datagram, controller, Held, Given, Move, gave, connectedAt, connects, bytesBy, peerGone, linkGone, ticked, datagramMove, toTester, isTarget, mostUser, controllerMove, move}
 use Rattle.model.specs.Table.{heldBy}
 use Rattle.model.specs.Rule.{Good}
+use Rattle.model.specs.Words.{tickSettles}
 use Rattle.model.proofs.Cases.{pick-case, unless-case}
+use Rattle.model.proofs.Codes.{zero-refuses, two-refuses, six-refuses}
 use Rattle.model.proofs.RuleParts.{Calm, calm-of}
 use Rattle.model.proofs.Settling.{calm-none, anew-cleared, Stands, stands, first-stands}
 use Rattle.model.proofs.CalmCheck.{Ready, ready-of, SameState, set-same, heard-same, ready-same, Stays, same-then, Handed, handed-calm, handed-asked}
-use Rattle.model.proofs.CalmChange.{heard-asked, heard-ready, kept-handed, closed-handed, again-handed, opened-handed, joined-handed, marked-handed, left-handed, ticking, ticking-asked, ticking-handed}
+use Rattle.model.proofs.CalmChange.{heard-asked, heard-ready, kept-handed, closed-handed, again-handed, opened-handed, joined-handed, marked-handed, left-handed, ticking-asked, ticking-handed}
 
 -- ---- what a request gets
-
-not-tester-closes : eqb 0x00 accepted ≡ false
-unfolding accepted
-not-tester-closes = refl
-
-wrong-type-closes : eqb 0x06 accepted ≡ false
-unfolding accepted
-wrong-type-closes = refl
-
-other-address-closes : eqb 0x02 accepted ≡ false
-unfolding accepted
-other-address-closes = refl
 
 -- the decision, case by case: refused, active as that address already, a free place, or a check
 pub decide-case : (P : Decision → Type 0) (own : FarmSheet) (rows : List Row) (seat : ℕ) (q : Request)
@@ -63,8 +53,8 @@ pub decide-case : (P : Decision → Type 0) (own : FarmSheet) (rows : List Row) 
     → ((check : Check) → P (Ask check)) → P (decide own rows seat q)
 unfolding decide socketRules
 decide-case P own rows seat q turned again free check =
-    unless-case P (own .tester (q .address)) _ _ (λ t. turned 0x00 not-tester-closes)
-    (λ t. unless-case P (leb (q .kind) 1) _ _ (λ u. turned 0x06 wrong-type-closes) (λ u. by (rowAt rows seat .state) refl))
+    unless-case P (own .tester (q .address)) _ _ (λ t. turned 0x00 zero-refuses)
+    (λ t. unless-case P (leb (q .kind) 1) _ _ (λ u. turned 0x06 six-refuses) (λ u. by (rowAt rows seat .state) refl))
   where
     places : (o : Found) → firstAt (activeAs (q .address)) 0 rows ≡ o → isActive (rowAt rows seat) ≡ false → P (byHolder own rows o)
     places (At s) o e = check (One s)
@@ -77,7 +67,7 @@ decide-case P own rows seat q turned again free check =
     by (Fresh c) e = places (firstAt (activeAs (q .address)) 0 rows) refl (ap isActiveState e)
     by (Waiting w) e = places (firstAt (activeAs (q .address)) 0 rows) refl (ap isActiveState e)
     by (Active a c) e =
-        pick-case P (eqb a (q .address)) _ _ (λ t. again (ap (activeAsState (q .address)) e ∙ t)) (λ t. turned 0x02 other-address-closes)
+        pick-case P (eqb a (q .address)) _ _ (λ t. again (ap (activeAsState (q .address)) e ∙ t)) (λ t. turned 0x02 two-refuses)
 
 -- ---- a row that does not wait has had its bytes: what they bring about
 
@@ -154,7 +144,7 @@ module _ {own : FarmSheet} {f : Farm} (k : Ready own f) where
 
   pub ticked-calm : Calm own (ticked own f .farm)
   unfolding ticked andThen
-  ticked-calm = handed-calm own f (ticking own f) (ticking-handed k)
+  ticked-calm = handed-calm own f (tickSettles own f) (ticking-handed k)
 
   -- a free row opens: nothing that the check looks at
   pub opens-calm : (seat : ℕ) → isFree (rowAt (f .rows) seat) ≡ true → Calm own (withRow f seat freshRow)
@@ -245,7 +235,7 @@ module _ {own : FarmSheet} {f : Farm} (k : Good own f) (head : ℕ) (rest : List
   left-asked seat w = handed-asked own f (left own seat (closed own seat f .farm) .farm) (left-handed (ready-of k) seat) head rest e w
 
   -- in a tick
-  pub tick-asked : Stays own f (ticking own f) head
+  pub tick-asked : Stays own f (tickSettles own f) head
   tick-asked = ticking-asked (ready-of k) head rest e
 
 -- EVERY ACCEPTED CALL keeps the rules on the running check: after it the line is empty with clock 0 and no marks, or its head's check is

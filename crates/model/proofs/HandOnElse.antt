@@ -23,6 +23,7 @@ use Rattle.model.specs.Farm.{Farm, says, closed, closedWhere}
 use Rattle.model.specs.Line.{left, settle}
 use Rattle.model.specs.Move.{Own, connect, bytes, peerClosed, linkLost, datagram, controller, Held, Move, refused, gave, connectedAt, connects, peerGone, linkGone, clockRun, aged, ticked, openRows, answers, datagramMove, mostUser, isTarget, toTester, controllerMove, move, tickMove}
 use Rattle.model.specs.HandsOn.{isHandOn, handOns}
+use Rattle.model.specs.Table.{itemsBy}
 use Rattle.model.proofs.Cases.{pick-case, unless-case}
 use Rattle.model.proofs.HandOnNone.{NoHandOn, none-quiet, none-one, none-then, none-closed, none-closings, none-left, settle-hands-none}
 
@@ -35,13 +36,8 @@ isBytes linkLost = false
 isBytes (datagram input) = false
 isBytes (controller from to user) = false
 
--- what a call says; a refusal says nothing
-abbrev pub saidBy : Move → List Item
-saidBy (refused n) = []
-saidBy (gave g) = g .items
-
 abbrev NoneOn : Move → Type 0
-NoneOn m = handOns (saidBy m) ≡ 0
+NoneOn m = handOns (itemsBy m) ≡ 0
 
 -- ---- datagrams
 
@@ -119,9 +115,9 @@ module _ (own : FarmSheet) (h : Held) where
   none-move (controller from to user) e = none-controller from to user
 
   -- NO OTHER CALL HANDS ON: whatever the farm and its sheet are, a call of it that takes no bytes, and a tick, says no hand-on.
-  pub others-hand-nothing-on : (c : Own) → isBytes c ≡ false → handOns (saidBy (move own h c)) ≡ 0
+  pub others-hand-nothing-on : (c : Own) → isBytes c ≡ false → handOns (itemsBy (move own h c)) ≡ 0
   others-hand-nothing-on c e = none-move c e
 
-  pub ticks-hand-nothing-on : handOns (saidBy (tickMove own h)) ≡ 0
+  pub ticks-hand-nothing-on : handOns (itemsBy (tickMove own h)) ≡ 0
   unfolding tickMove
   ticks-hand-nothing-on = none-ticked (h .farm)

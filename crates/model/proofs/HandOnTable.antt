@@ -24,7 +24,7 @@ use Rattle.model.specs.HandsOn.{isHandOn, handOns, HandedOn}
 use Rattle.model.proofs.Cases.{pick-case, unless-case}
 use Rattle.model.proofs.HandOnNone.{said-append, none-quiet}
 use Rattle.model.proofs.HandOn.{handed-on}
-use Rattle.model.proofs.HandOnElse.{isBytes, saidBy, others-hand-nothing-on, ticks-hand-nothing-on}
+use Rattle.model.proofs.HandOnElse.{isBytes, others-hand-nothing-on, ticks-hand-nothing-on}
 
 -- ---- calls that take no bytes
 
@@ -44,7 +44,7 @@ module _ (s : List ℕ) (t : Table) where
   none-farm : (f : ℕ) (c : Own) → isBytes c ≡ false → NoneOut (called s t (farms f c))
   none-farm f c e = by (move (slotSheet s f) (slot t f) c) (others-hand-nothing-on (slotSheet s f) (slot t f) c e)
     where
-      by : (m : Move) → handOns (saidBy m) ≡ 0 → NoneOut (movedTo t f m)
+      by : (m : Move) → handOns (itemsBy m) ≡ 0 → NoneOut (movedTo t f m)
       by (refused n) z = z
       by (gave g) z = z
 
@@ -53,12 +53,8 @@ module _ (s : List ℕ) (t : Table) where
   none-ticks f (h ∷ u) =
       omega (arith, said-append isHandOn (itemsBy (slotTick s f h)) (tickItems s (suc f) u), by (ltb f (farmCount s)), none-ticks (suc f) u)
     where
-      gone : (m : Move) → handOns (saidBy m) ≡ 0 → handOns (itemsBy m) ≡ 0
-      gone (refused n) z = z
-      gone (gave g) z = z
-
       by : (b : Bool) → handOns (itemsBy (pick b (tickMove (slotSheet s f) h) (refused 5))) ≡ 0
-      by true = gone (tickMove (slotSheet s f) h) (ticks-hand-nothing-on (slotSheet s f) h)
+      by true = ticks-hand-nothing-on (slotSheet s f) h
       by false = none-quiet isHandOn
 
   none-of-farm : (f : ℕ) (c : Own) → isBytes c ≡ false → NoneOut (called s t (ofFarm s f c))

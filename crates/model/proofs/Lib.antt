@@ -1,4 +1,5 @@
 pub mod Cases
+pub mod Codes
 pub mod Rows
 pub mod Seats
 pub mod RuleParts

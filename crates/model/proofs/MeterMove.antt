@@ -42,7 +42,7 @@ use Rattle.model.specs.Move.{connect, bytes, peerClosed, linkLost, datag
 use Rattle.model.specs.Rule.{times, RowKeeps, Good}
 use Rattle.model.specs.Meter.{isClose}
 use Rattle.model.proofs.Cases.{pick-case, unless-case}
-use Rattle.model.proofs.Rows.{row-put, row-set, row-same, row-map, open-in}
+use Rattle.model.proofs.Rows.{row-put, row-set, row-same, row-map, open-in, older-open}
 use Rattle.model.proofs.MeterBalance.{closing, Rests, takes-rests, hand-open, hand-boundary, Clear, clear-of, clear-older}
 use Rattle.model.proofs.MeterDoings.{Laws, Keeps, Then, then-then, then-quiet, open-below, speak-keeps, closings-keeps, lines-keeps, first-picked, settle-keeps}
 use Rattle.model.proofs.MeterLine.{Ready, ready-closed, ready-closings, ready-answered, ready-joined, ready-left, ready-marked}
@@ -257,12 +257,6 @@ limit-open Free e = absurd (false≢true e)
 limit-open (Fresh c) e = refl
 limit-open (Waiting q) e = refl
 limit-open (Active a c) e = refl
-
-older-open : (s : RowState) → isOpenState (olderState s) ≡ isOpenState s
-older-open Free = refl
-older-open (Fresh c) = refl
-older-open (Waiting q) = refl
-older-open (Active a c) = refl
 
 -- ---- no datagram is answered by a close
 

@@ -12,7 +12,9 @@ use borrow.Author.Tests.{eqb-true}
 use Rattle.octets.specs.Choice.{one}
 use Rattle.octets.specs.Search.{countIf}
 use Rattle.kinds.specs.declared.Row.{Row}
-use Rattle.model.specs.Row.{freeRow, rowAt, isOpen}
+use Rattle.kinds.specs.declared.RowState.{RowState}
+use Rattle.kinds.specs.declared.RowState.the-variants.{Free, Fresh, Waiting, Active}
+use Rattle.model.specs.Row.{freeRow, rowAt, isOpenState, isOpen, olderState}
 use Rattle.model.specs.Line.{without}
 use Rattle.model.specs.Rule.{times}
 use Rattle.model.proofs.Cases.{split}
@@ -117,3 +119,11 @@ pub row-freed : (rows : List Row) (i : ℕ) → rowAt (set rows i freeRow) i ≡
 row-freed [] i = refl
 row-freed (x ∷ rows) zero = refl
 row-freed (x ∷ rows) (suc i) = row-freed rows i
+
+-- ---- a row a tick later
+
+pub older-open : (s : RowState) → isOpenState (olderState s) ≡ isOpenState s
+older-open Free = refl
+older-open (Fresh c) = refl
+older-open (Waiting q) = refl
+older-open (Active a c) = refl

@@ -180,7 +180,7 @@ once-at a rows (Fresh age) h e = absurd (never e)
 once-at a rows (Waiting q) h e = absurd (never e)
 once-at a rows (Active b idle) h e = subst (λ (k : ℕ). countIf (activeAs k) rows ≤ 1) (eqb-true b a e) h
 
-once-of : (rows : List Row) → ((a : ℕ) → countIf (activeAs a) rows ≤ 1) → (st : RowState) → OnceBy rows st
+pub once-of : (rows : List Row) → ((a : ℕ) → countIf (activeAs a) rows ≤ 1) → (st : RowState) → OnceBy rows st
 once-of rows h Free = tt
 once-of rows h (Fresh age) = tt
 once-of rows h (Waiting q) = tt

@@ -35,6 +35,7 @@ use Rattle.model.specs.RuleTest.{everySeat, seatKeeps, goodFarm}
 use Rattle.model.specs.Table.{slot, goodFrom, goodTable, connectTo, Lent, leastOutput, assemblingSize, whose, step, numberOf, rowOf}
 use Rattle.model.specs.History.{fresh}
 use Rattle.model.proofs.Cases.{split}
+use Rattle.model.proofs.Codes.{zero-refuses}
 use Rattle.model.proofs.HandOnNone.{said, none-joined}
 
 -- ---- a fresh table keeps the rules
@@ -126,15 +127,11 @@ fresh-connects s l rooms f sheet output assembling h =
 
 -- ---- "one that always says 10, by 00 and the single active address"
 
-refused-not-10 : eqb 0x00 accepted ≡ false
-unfolding accepted
-refused-not-10 = refl
-
 -- ALWAYS SAYS 10 is shut out: a request whose address is no tester of the farm gets 00, and its row closes.
 pub unknown-gets-00 : (own : FarmSheet) (seat : ℕ) (q : Request) (f : Farm) → own .tester (q .address) ≡ false
     → requested own seat q f .items ≡ says own seat (Activation (q .address) (own .entity) 0x00) ∷ says own seat Close ∷ []
 unfolding requested decide answered andThen closed
-unknown-gets-00 own seat q f e = rw (e, refused-not-10) refl
+unknown-gets-00 own seat q f e = rw (e, zero-refuses) refl
 
 -- an answer to a request
 abbrev pub isAnswer : Reply → Bool

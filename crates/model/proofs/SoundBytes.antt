@@ -28,25 +28,13 @@ use Rattle.model.specs.Line.{accepted, byState, socketRules, decide, ans
 use Rattle.model.specs.Bytes.{decidedBy, requested, toTarget, diagnosed, eventDone, heardRow, heard, takenBy, bytesDone}
 use Rattle.model.specs.Rule.{RowKeeps}
 use Rattle.model.proofs.Cases.{pick-case, unless-case}
+use Rattle.model.proofs.Codes.{zero-refuses, two-refuses, six-refuses}
 use Rattle.model.proofs.Rows.{row-same, open-in, times-append}
 use Rattle.model.proofs.RuleParts.{Sound}
 use Rattle.model.proofs.SoundRows.{Kept, Lined, Young, kept-of, sound-from, active-young, Fits, put-kept, put-young, put-lined}
 use Rattle.model.proofs.SoundClose.{closed-sound}
 use Rattle.model.proofs.SoundLine.{socket-case, started-sound, room-fits, settled-sound}
 use Rattle.model.proofs.SoundStream.{PossibleIn, takes-well}
-
--- the codes that a request can get at once, but the one that accepts
-zero-code : eqb 0x00 accepted ≡ false
-unfolding accepted
-zero-code = refl
-
-two-code : eqb 0x02 accepted ≡ false
-unfolding accepted
-two-code = refl
-
-six-code : eqb 0x06 accepted ≡ false
-unfolding accepted
-six-code = refl
 
 -- a row that bytes can come from: open, and not waiting
 pub record Talks (f : Farm) (seat : ℕ) : Type 0 where
@@ -206,8 +194,8 @@ module _ {own : FarmSheet} {f : Farm} (seat : ℕ) (s : Sound own f) (k : Talks 
   pub requested-sound : (q : Request) → Sound own (requested own seat q f .farm)
   unfolding requested decide
   requested-sound q =
-      unless-case P (own .tester (q .address)) _ _ (λ _. refused-sound (q .address) 0 zero-code)
-      (λ t. unless-case P (leb (q .kind) 1) _ _ (λ _. refused-sound (q .address) 6 six-code)
+      unless-case P (own .tester (q .address)) _ _ (λ _. refused-sound (q .address) 0 zero-refuses)
+      (λ t. unless-case P (leb (q .kind) 1) _ _ (λ _. refused-sound (q .address) 6 six-refuses)
       (λ u. by (rowAt (f .rows) seat .state) refl t (leb-true (q .kind) 1 u)))
     where
       P : Decision → Type 0
@@ -219,7 +207,7 @@ module _ {own : FarmSheet} {f : Farm} (seat : ℕ) (s : Sound own f) (k : Talks 
       by (Waiting r) e t u = socket-sound q (ap isActiveState e) t u
       by (Active b c) e t u =
           pick-case P (eqb b (q .address)) _ _ (λ v. accepted-sound (q .address) (again-fits (q .address) b c e (eqb-true b (q .address) v) t))
-          (λ _. refused-sound (q .address) 2 two-code)
+          (λ _. refused-sound (q .address) 2 two-refuses)
 
   -- ---- the other messages, and a header that is wrong
 

@@ -25,7 +25,7 @@ use Rattle.model.specs.Bytes.{takenBy}
 use Rattle.model.specs.Move.{Own, connect, bytes, peerClosed, linkLost, datagram, controller, Held, Given, Move, refused, gave, connectedAt, connects, tookBytes, bytesBy, peerGone, linkGone, clockRun, aged, ticked, datagramMove, mostUser, isTarget, toTester, controllerMove, move}
 use Rattle.model.specs.Rule.{times, RowKeeps, PossibleAt}
 use Rattle.model.proofs.Cases.{pick-case, unless-case}
-use Rattle.model.proofs.Rows.{row-map, open-in, count-map, times-gone, times-kept, row-free}
+use Rattle.model.proofs.Rows.{row-map, open-in, count-map, times-gone, times-kept, row-free, older-open}
 use Rattle.model.proofs.RuleParts.{Sound}
 use Rattle.model.proofs.SoundRows.{Kept, Lined, Young, kept-of, sound-from, one-small, shut-loud, limit-loud, fresh-young, put-kept, free-kept, free-young, put-young, put-lined}
 use Rattle.model.proofs.SoundClose.{closings-line, closings-marks, closings-kept, closings-young, closings-lined, closings-none}
@@ -154,12 +154,6 @@ link-sound {own} {f} s =
     (λ i. ap one (sym (shut-loud (rowAt (closedWhere own (λ seat r. isOpen r) f .farm .rows) i .state) (closings-none own isOpen refl f (s .seats) i)))) no-marks
 
 -- ---- tick
-
-older-open : (s : RowState) → isOpenState (olderState s) ≡ isOpenState s
-older-open Free = refl
-older-open (Fresh c) = refl
-older-open (Waiting q) = refl
-older-open (Active a c) = refl
 
 pub older-waiting : (s : RowState) → isWaitingState (olderState s) ≡ isWaitingState s
 older-waiting Free = refl

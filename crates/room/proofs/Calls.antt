@@ -28,7 +28,7 @@ use Rattle.model.specs.Bytes.{decidedBy, requested, toTarget, diagnosed, faulte
 use Rattle.model.specs.Move.{clockRun, aged, openRows, peerGone, linkGone, ticked}
 use Rattle.model.specs.Rule.{Good}
 use Rattle.model.proofs.Cases.{pick-case}
-use Rattle.model.proofs.Rows.{count-map, count-same}
+use Rattle.model.proofs.Rows.{count-map, count-same, older-open}
 use Rattle.model.proofs.SoundRows.{limit-open}
 use Rattle.model.proofs.SoundClose.{closings-line}
 use Rattle.model.proofs.SoundLine.{advanced-line}
@@ -38,12 +38,6 @@ use Rattle.room.proofs.Open.{count-put, open-within, line-within, then-
 use Rattle.room.proofs.Settled.{Seated, closings-seated, closed-seated, closed-costs, answered-seated, answered-costs, started-few, advanced-few, line-few, settle-few}
 
 -- ---- what a call does before anything is said
-
-older-open : (s : RowState) → isOpenState (olderState s) ≡ isOpenState s
-older-open Free = refl
-older-open (Fresh c) = refl
-older-open (Waiting q) = refl
-older-open (Active a c) = refl
 
 ran-rows : (line : List ℕ) (f : Farm) → clockRun line f .rows ≡ f .rows
 ran-rows [] f = refl

@@ -33,7 +33,7 @@ use Rattle.model.specs.Farm.{Farm, seatCount}
 use Rattle.model.specs.Line.{isMarked, isAsked}
 use Rattle.model.specs.Rule.{times, PossibleAt, TidyAt}
 use Rattle.model.specs.RuleTest.{everySeat, possibleAt, tidyAt, seatKeeps}
-use Rattle.model.proofs.RuleTestLaws.{OnceBy, SeatOk, seat-says, possible-says, boundary-says, unused-says}
+use Rattle.model.proofs.RuleTestLaws.{OnceBy, SeatOk, seat-says, possible-says, boundary-says, unused-says, once-of}
 use Rattle.table.specs.Layout.{seats, rowsAt, blockSize}
 use Rattle.table.specs.Block.{farmOf}
 use Rattle.table.proofs.BlockLaws.{row-read}
@@ -195,12 +195,6 @@ module _ (own : FarmSheet) (x : Farm) (i : ℕ) where
 -- ---- all seats
 
 -- the row's address is active once, from the rows after each
-once-state : (rows : List Row) → ((a : ℕ) → countIf (activeAs a) rows ≤ 1) → (st : RowState) → OnceBy rows st
-once-state rows h Free = tt
-once-state rows h (Fresh age) = tt
-once-state rows h (Waiting q) = tt
-once-state rows h (Active a idle) = h a
-
 after-state : (a : ℕ) (rows : List Row) (i : ℕ) (st : RowState) → After rows i st → activeAsState a st ≡ true → some (activeAs a) (drop (suc i) rows) ≡ false
 after-state a rows i Free h e = absurd (never e)
 after-state a rows i (Fresh age) h e = absurd (never e)
@@ -235,7 +229,7 @@ module _ (own : FarmSheet) (x : Farm) (nine : length (x .rows) ≡ seatCount) (e
       after-once (activeAs a) (x .rows)
       (λ j l e. let m : j < seatCount = omega (arith, nine) in after-state a (x .rows) j (rowAt (x .rows) j .state) (seat-passes own x j (eight j m) .right (h j m) .after) e)
       in
-      seat-passes own x i (eight i k) .right (h i k) .seat (once-state (x .rows) once (rowAt (x .rows) i .state))
+      seat-passes own x i (eight i k) .right (h i k) .seat (once-of (x .rows) once (rowAt (x .rows) i .state))
 
   ok-passed : AllOk → (i : ℕ) → i < seatCount → seatTest own x i ≡ true
   ok-passed g i k =

@@ -19,9 +19,6 @@ use Rattle.rowbytes.specs.RowBytes.{stateBytes, stateImage, stateFrom, p
 use Rattle.rowbytes.proofs.RunLaws.{run, run-is, run-on}
 use Rattle.rowbytes.proofs.RowLaws.{four, state-long, place-long}
 
-pub eq-says : (a b : ℕ) → Says (eqb a b) (a ≡ b)
-eq-says a b = record { right = eqb-true a b; all = eq-eqb a b }
-
 -- ---- the state, by its tag
 
 pub fresh-ok : (k a t : ℕ) → Unused k a 0 → StateOk 1 k a t

@@ -6,14 +6,13 @@ ghost use Rattle.octets.specs.Choice.{both};
 ghost use Rattle.octets.specs.Search.{all};
 ghost use Rattle.sheet.specs.Rules.{GoodSheet};
 ghost use Rattle.model.specs.FarmSheet.{slotSheet};
-ghost use Rattle.model.specs.RuleTest.{everySeat, isPending, headKeeps, seatKeeps, goodFarm};
+ghost use Rattle.model.specs.RuleTest.{everySeat, headKeeps, seatKeeps, goodFarm};
 ghost use Rattle.table.specs.Layout.{seats, blockSize};
 ghost use Rattle.table.specs.Block.{farmOf, wholeBlock};
 ghost use Rattle.decide.specs.SiteSheet.{siteSheet};
 ghost use Rattle.row_rules.specs.Seat.{ruleSheet};
 use kinds::Clock;
 use kinds::FarmNo;
-use kinds::HeadVerdict;
 use kinds::Site;
 use sheet::farms;
 use table::SEATS;
@@ -44,16 +43,6 @@ fn line_seated(b: &[u8]) -> bool
     true
 }
 
-fn is_pending(v: HeadVerdict) -> bool
-    ensures { λ r. ⌜ r ≡ isPending v ⌝ }
-{
-    match v {
-        HeadVerdict::Pending => true,
-        HeadVerdict::Answer(_) => false,
-        HeadVerdict::RunOut(_) => false,
-    }
-}
-
 // "a non-empty line's head needs no check or its check is already decided"; "an empty line has clock .. set"
 fn head_keeps(b: &[u8], site: Site) -> bool
     requires { ⌜ length (now b) ≡ blockSize ⌝ }
@@ -66,7 +55,7 @@ fn head_keeps(b: &[u8], site: Site) -> bool
     }
     let head = table_line::seat_at(b, 0);
     let v = decide::head_verdict(b, site, head);
-    is_pending(v)
+    decide::is_pending(v)
 }
 
 // The farm's rules, of a farm with these three numbers and so many rows.

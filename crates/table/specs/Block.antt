@@ -102,7 +102,7 @@ pub record Whole (b : List ℕ) : Type 0 where
   pub marks : MarksOk b
   pub rows : RowsOk b
 
--- the same as a test: the bytes are those of the farm that they mean (proofs/WholeTest)
+-- the same as a test: the bytes are those of the farm that they mean (WholeTest, of table_whole's laws)
 unfoldable pub wholeBlock : List ℕ → Bool
 wholeBlock b = sameList (image (farmOf b)) b
 

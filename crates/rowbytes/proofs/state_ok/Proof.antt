@@ -3,10 +3,11 @@
 use mathlib.Core.Path.{sym, subst}
 use Prim.Native.Nat.{ℕ}
 use lib.Dec.{eqb}
+use Rattle.octets.proofs.ChoiceLaws.{says-eq}
 use Rattle.octets.specs.Says.{Says}
 use Rattle.octets.proofs.SaysLaws.{says-no, says-of}
 use Rattle.rowbytes.specs.RowBytes.{StateOk}
-use Rattle.rowbytes.proofs.TestLaws.{eq-says, fresh-ok, fresh-unused, waiting-ok, waiting-unused, active-ok, active-unused, free-ok, free-unused, no-state}
+use Rattle.rowbytes.proofs.TestLaws.{fresh-ok, fresh-unused, waiting-ok, waiting-unused, active-ok, active-unused, free-ok, free-unused, no-state}
 use borrow.Author.Needs.{needs}
 use Rattle.rowbytes.proofs.state_ok.Statement.{statement}
 use Rattle.rowbytes.proofs.state_ok.Tie as tie
@@ -24,13 +25,13 @@ returns-2 : tie.Need-returns-2
 returns-2 c =
     let s = c .before .before .args in
     subst (λ (n : ℕ). Says (eqb (s .ticks) 0) (StateOk n (s .kind) (s .address) (s .ticks))) (sym (c .if2 .taken))
-    (says-of (waiting-ok (s .kind) (s .address) (s .ticks)) (waiting-unused (s .kind) (s .address) (s .ticks)) (eq-says (s .ticks) 0))
+    (says-of (waiting-ok (s .kind) (s .address) (s .ticks)) (waiting-unused (s .kind) (s .address) (s .ticks)) (says-eq (s .ticks) 0))
 
 returns-3 : tie.Need-returns-3
 returns-3 c =
     let s = c .before .before .before .args in
     subst (λ (n : ℕ). Says (eqb (s .kind) 0) (StateOk n (s .kind) (s .address) (s .ticks))) (sym (c .if3 .taken))
-    (says-of (active-ok (s .kind) (s .address) (s .ticks)) (active-unused (s .kind) (s .address) (s .ticks)) (eq-says (s .kind) 0))
+    (says-of (active-ok (s .kind) (s .address) (s .ticks)) (active-unused (s .kind) (s .address) (s .ticks)) (says-eq (s .kind) 0))
 
 returns-4 : tie.Need-returns-4
 returns-4 c =

@@ -16,7 +16,7 @@ use Rattle.decide.specs.SiteSheet.{siteSheet}
 use Rattle.closing.specs.Did.{Seated}
 use Rattle.rowwork.specs.Acted.{acted}
 use Rattle.closing.proofs.DidLaws.{did-same, did-nothing, did-then, then-assoc}
-use Rattle.line_join.specs.Verdict.{isPending}
+use Rattle.model.specs.RuleTest.{isPending}
 use Rattle.line_join.proofs.LineLaws.{seated-rest, acted-line, advanced-line, settle-none, settle-pending, settle-acts}
 use borrow.Author.Needs.{needs}
 use borrow.Fn.Kinds.{In}
@@ -27,7 +27,7 @@ use Rattle.line.proofs.settle.+advance_line+decide_head.Lts-advance_lin
 use Rattle.line.proofs.settle.decide_head.Reads as decide-head
 use Rattle.line.proofs.settle.decide_head.Kinds as decide-head-kinds
 use Rattle.line.proofs.settle.+advance_line+decide_head.Lts-decide_head as decide-head-lts
-use Rattle.line.proofs.settle.is_pending.Reads as is-pending-reads
+use Rattle.decide.proofs.is_pending.Reads as is-pending-reads
 use Rattle.rowwork.proofs.answer.act.Reads as act-reads
 use Rattle.rowwork.proofs.check.advance.Reads as advance-reads
 use Rattle.decide.proofs.head_verdict.Reads as head-verdict-reads
