@@ -32,7 +32,7 @@ pub fn finish(out: &mut [u8], p: &[u8], long: &[u8], row: u8, taken: usize) -> A
     ensures { λ r. ⌜ r ≡ done row taken (r .length) ⌝ }
     ensures { λ r. ⌜ Wrote (sheetOf (entriesOf (now (long .entry)) (itemsOf (now (p .entry))))) (now (out .entry)) (now (out .exit)) (r .length) ⌝ }
 {
-    let n = outsheet::write::write_sheet(out, p, long);
+    let n = sheet_writer::write_sheet(out, p, long);
     Answer {
         number: 0,
         row: row,

@@ -1,2 +1,2 @@
-// The plan of a call's entries in lent bytes, and the output sheet that is written from it once per call.
-pub mod write; // write.rt: the sheet
+// The output sheet of a list of entries, and what the items of a plan say as entries: definitions in specs/, laws in proofs/. There is nothing
+// to run; entry_writer and sheet_writer write it.

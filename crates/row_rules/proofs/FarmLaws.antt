@@ -24,7 +24,8 @@ use Rattle.model.proofs.SameSite.{SameSite, verdict-same, is-asked-same}
 use Rattle.model.proofs.SameRule.{SameRule, good-same}
 use Rattle.decide.specs.SiteSheet.{siteSheet}
 use Rattle.site.specs.Site.{siteOf, Sited}
-use Rattle.row_rules.specs.Seat.{testerIn, ruleSheet}
+use Rattle.row_tests.specs.Tester.{testerIn}
+use Rattle.row_rules.specs.Seat.{ruleSheet}
 
 -- ---- the head
 

@@ -14,18 +14,13 @@ use Rattle.kinds.specs.declared.Site.{Site}
 use Rattle.kinds.specs.declared.Place.{Place}
 use Rattle.kinds.specs.declared.RowState.{RowState}
 use Rattle.kinds.specs.declared.RowState.the-variants.{Free, Fresh, Waiting, Active}
-use Rattle.sheet.specs.Sheet.{testersOf}
-use Rattle.sheet.specs.Find.{lookup}
-use Rattle.model.specs.FarmSheet.{FarmSheet, stranger, testerBy}
+use Rattle.model.specs.FarmSheet.{FarmSheet, stranger}
 use Rattle.model.specs.Row.{rowAt, activeAs}
 use Rattle.model.specs.Farm.{Farm}
 use Rattle.model.specs.Line.{isMarked, isAsked}
 use Rattle.model.specs.Rule.{times}
 use Rattle.model.specs.RuleTest.{possibleAt, tidyAt, isBoundary}
-
--- the address is that of a tester of farm f
-abbrev pub testerIn : List ℕ → ℕ → ℕ → Bool
-testerIn s f a = testerBy f (lookup a (testersOf s))
+use Rattle.row_tests.specs.Tester.{testerIn}
 
 -- what rule 4 looks at of the sheet: the site's three numbers, how many rows the farm owns, who is its tester. What it does not look at
 -- stands for nothing (SameRule, of the model's laws, carries what is said here to the whole sheet)

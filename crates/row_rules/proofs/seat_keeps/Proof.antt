@@ -6,7 +6,8 @@ use Rattle.kinds.specs.declared.Row.{Row}
 use Rattle.model.specs.Farm.{Farm}
 use Rattle.model.specs.RuleTest.{possibleAt, tidyAt}
 use Rattle.table.specs.Block.{farmOf}
-use Rattle.row_rules.specs.Seat.{testerIn, ruleSheet, stateKeeps, seatTest}
+use Rattle.row_tests.specs.Tester.{testerIn}
+use Rattle.row_rules.specs.Seat.{ruleSheet, stateKeeps, seatTest}
 use Rattle.row_rules.proofs.FarmLaws.{asked-carried}
 use borrow.Author.Needs.{needs}
 use Rattle.row_rules.proofs.seat_keeps.Statement.{statement}

@@ -2,7 +2,8 @@
 -- Assumes nothing.
 use mathlib.Core.Path.{sym, ap, _∙_}
 use Rattle.table.specs.Block.{farmOf}
-use Rattle.row_rules.specs.Seat.{testerIn, stateKeeps}
+use Rattle.row_tests.specs.Tester.{testerIn}
+use Rattle.row_rules.specs.Seat.{stateKeeps}
 use borrow.Author.Needs.{needs}
 use Rattle.row_rules.proofs.state_keeps.Statement.{statement}
 use Rattle.row_rules.proofs.state_keeps.Tie as tie
