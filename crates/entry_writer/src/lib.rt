@@ -65,7 +65,7 @@ fn put_message(
 {
     let n = MESSAGE + user.len();
     put_head(out, at, row, SEND, n);
-    layout::put_message(out, at + HEAD, version, controller, tester, user);
+    long_replies::put_message(out, at + HEAD, version, controller, tester, user);
     at + (HEAD + n)
 }
 
@@ -76,7 +76,7 @@ fn put_identity(out: &mut [u8], at: usize, row: RowNo, version: u8, farm: &[u8])
 {
     if farm.len() == RECORD {
         put_head(out, at, row, SEND, IDENTITY);
-        layout::put_identity(out, at + HEAD, version, farm);
+        long_replies::put_identity(out, at + HEAD, version, farm);
         at + (HEAD + IDENTITY)
     } else {
         put_head(out, at, row, SEND, 0);
@@ -94,33 +94,33 @@ pub fn put_entry(out: &mut [u8], at: usize, it: Item, long: &[u8]) -> usize
     let what = it.reply;
     match what {
         Reply::Nack(c) => {
-            let b = layout::nack(v, c);
+            let b = short_replies::nack(v, c);
             put_bytes(out, at, row, SEND, &b)
         }
         Reply::Identity => put_identity(out, at, row, v, long),
         Reply::Activation(a, e, c) => {
-            let b = layout::activation(v, a, e, c);
+            let b = short_replies::activation(v, a, e, c);
             put_bytes(out, at, row, SEND, &b)
         }
         Reply::AliveCheck => {
-            let b = layout::alive_check(v);
+            let b = short_replies::alive_check(v);
             put_bytes(out, at, row, SEND, &b)
         }
         Reply::Status(q, o) => {
-            let b = layout::status(v, q, o);
+            let b = short_replies::status(v, q, o);
             put_bytes(out, at, row, SEND, &b)
         }
         Reply::PowerMode(m) => {
-            let b = layout::power_mode(v, m);
+            let b = short_replies::power_mode(v, m);
             put_bytes(out, at, row, SEND, &b)
         }
         Reply::Message(k, t) => put_message(out, at, row, v, k, t, long),
         Reply::Ack(t, s, c) => {
-            let b = layout::ack(v, t, s, c);
+            let b = short_replies::ack(v, t, s, c);
             put_bytes(out, at, row, SEND, &b)
         }
         Reply::DiagnosticNack(t, s, c) => {
-            let b = layout::diagnostic_nack(v, t, s, c);
+            let b = short_replies::diagnostic_nack(v, t, s, c);
             put_bytes(out, at, row, SEND, &b)
         }
         // No bytes: the empty front of what is lent.

@@ -9,7 +9,6 @@ ghost use Rattle.closing.specs.Did.{RowsFit, Seated, Did};
 use closing::close;
 use kinds::Site;
 use line::settle;
-use rowwork::check;
 
 // "Peer closed gives one close for that row."
 pub fn peer_closed(b: &mut [u8], p: &mut [u8], site: Site, seat: usize)
@@ -28,5 +27,5 @@ pub fn link_lost(b: &mut [u8], p: &mut [u8], site: Site)
 {
     close::close_open(b, p, site);
     table_line::clear_line(b);
-    check::clear(b);
+    alive::clear(b);
 }

@@ -1,21 +1,14 @@
--- Laws of a bytes call: the meters, the seats of the line, the payload's length, and the parts put together.
+-- Laws of a bytes call: the seats of the line, the payload's length, and the parts put together.
 -- Assumes nothing.
-use Prim.Native.Nat.{ℕ, zero, suc, _+_, _%_, _≤_, _<_}
-use mathlib.Core.Path.{_≡_, refl, sym, ap, subst, _∙_}
+use Prim.Native.Nat.{ℕ, zero, suc, _+_, _≤_, _<_}
+use mathlib.Core.Path.{_≡_, refl, sym, subst}
 use mathlib.Core.Bool.{Bool, true, false}
 use mathlib.Core.List.{List, [], _∷_, _++_}
 use native.Mathlib.Omega.{arith}
 use lib.Dec.{eqb}
 use lib.ListN.{getD, take}
-use borrow.Author.Tests.{eq-eqb, ne-eqb}
 use Rattle.octets.specs.Choice.{pick}
-use Rattle.kinds.specs.Clock.{clockOf}
-use Rattle.kinds.specs.declared.Clock.{Clock}
-use Rattle.kinds.specs.declared.Meters.{Meters}
 use Rattle.kinds.specs.declared.Request.{Request}
-use Rattle.kinds.specs.declared.RowState.{RowState}
-use Rattle.kinds.specs.declared.RowState.the-variants.{Active}
-use Rattle.kinds.specs.declared.Place.{Place}
 use Rattle.kinds.specs.declared.Decision.{Decision}
 use Rattle.kinds.specs.declared.Decision.the-variants.{Now, Ask}
 use Rattle.kinds.specs.declared.Site.{Site}
@@ -23,14 +16,12 @@ use Rattle.payload.specs.declared.Ends.{Ends}
 use Rattle.wire.specs.Header.{closes, mostPayload}
 use Rattle.payload.specs.Payload.{requestIn, endsIn}
 use Rattle.model.specs.FarmSheet.{FarmSheet, TargetIs, stranger, unreachable, reachable}
-use Rattle.model.specs.Row.{noHead, rowAt, activeAs, waitingRow, heardState}
-use Rattle.model.specs.Stream.{streamOf, isStored, Event, inputEnded, wrong, finished, skipped, Taken, endedBy}
-use Rattle.model.specs.Farm.{Farm, seatCount, withRow, withLine, Done, tookMore, wrap, andThen, closed}
+use Rattle.model.specs.Row.{rowAt, activeAs, waitingRow}
+use Rattle.model.specs.Stream.{isStored, Event, inputEnded, wrong, finished, skipped, Taken}
+use Rattle.model.specs.Farm.{Farm, withRow, withLine, Done, andThen, closed}
 use Rattle.model.specs.Line.{accepted, decide, answered, joined, isEmpty, answersCheck, marked, settle}
 use Rattle.model.specs.Bytes.{decidedBy, requested, toTarget, diagnosed, eventDone, heard, payloadBy, bytesDone}
-use Rattle.model.specs.Rule.{Good}
 use Rattle.model.proofs.Cases.{pick-case}
-use Rattle.model.proofs.LineRoom.{line-below}
 use Rattle.model.proofs.SameSite.{SameSite, settle-same}
 use Rattle.model.proofs.Settling.{started-farm}
 use Rattle.table.specs.Layout.{seats}
@@ -39,31 +30,7 @@ use Rattle.decide.specs.SiteSheet.{siteSheet}
 use Rattle.closing.specs.Did.{Seated, Did}
 use Rattle.closing.proofs.DidLaws.{did-same, did-then, did-after}
 use Rattle.messages.specs.Length.{EndsWell}
-use Rattle.farm_bytes.specs.Bytes.{idleAfter, storedLong, payloadLong}
-
--- ---- the row and the meters
-
-pub idle-kept : (n : ℕ) (idle : Clock) → n ≡ 0 → idle ≡ idleAfter n idle
-idle-kept n idle e = rw (eq-eqb n 0 e) refl
-
-pub idle-anew : (n : ℕ) (idle : Clock) → (n ≡ 0 → ⊥) → clockOf 0 ≡ idleAfter n idle
-idle-anew n idle e = rw (ne-eqb n 0 e) refl
-
-pub active-heard : (n : ℕ) {st : RowState} {a : ℕ} {idle now : Clock} → st ≡ Active a idle → now ≡ idleAfter n idle → Active a now ≡ heardState n st
-active-heard n {a = a} e h = ap (Active a) h ∙ sym (ap (heardState n) e)
-
--- what a message has finished does not depend on its bytes
-pub ended-same : (e : Event) (p : Place) (head room : List ℕ) → endedBy e (streamOf p noHead []) ≡ endedBy e (streamOf p head room)
-ended-same inputEnded p head room = refl
-ended-same (wrong fault) p head room = refl
-ended-same (finished kind size) p head room = refl
-ended-same (skipped size) p head room = refl
-
--- what a meter holds of a count is enough
-pub took-wraps : (n : ℕ) (m : Meters) → tookMore (0 + n % 4294967296) m ≡ tookMore n m
-took-wraps n m =
-    let e : wrap (m .taken + (0 + n % 4294967296)) ≡ wrap (m .taken + n) = omega arith in
-    ap (λ (x : ℕ). record { taken = x; finished = m .finished; lost = m .lost }) e
+use Rattle.farm_heard.specs.Heard.{payloadLong}
 
 -- ---- the seats of the line
 
@@ -125,12 +92,6 @@ unfolding heard
 heard-line seat t f = refl
 
 -- ---- the payload
-
-pub stored-yes : (kind size : ℕ) → isStored kind ≡ true → size ≡ storedLong kind size
-stored-yes kind size e = rw e refl
-
-pub stored-no : (kind size : ℕ) → isStored kind ≡ false → 0 ≡ storedLong kind size
-stored-no kind size e = rw e refl
 
 pub payload-taken : (e : Event) (room : List ℕ) → take (payloadLong e) room ≡ payloadBy e room
 payload-taken inputEnded room = refl

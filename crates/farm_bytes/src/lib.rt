@@ -1,39 +1,26 @@
 // A bytes call of one farm: what is taken of the input, what ended it, and the line settled.
 ghost use mathlib.Core.Path.{_≡_};
 ghost use mathlib.Core.Bool.{false};
-ghost use mathlib.Core.List.{List, []};
+ghost use mathlib.Core.List.{List};
 ghost use Prim.Native.Nat.{ℕ, _<_};
 ghost use lib.ListN.{length};
 ghost use Rattle.wire.specs.Header.{mostPayload};
 ghost use Rattle.model.specs.FarmSheet.{farmSheet};
-ghost use Rattle.model.specs.Row.{noHead, rowAt, isWaiting, heardState};
-ghost use Rattle.model.specs.Stream.{streamOf, overAt, endedBy};
-ghost use Rattle.model.specs.Farm.{tookMore, finishedMore};
+ghost use Rattle.model.specs.Row.{rowAt, isWaiting};
 ghost use Rattle.model.specs.Bytes.{heard, takenBy};
 ghost use Rattle.model.specs.Rule.{Good};
 ghost use Rattle.plan.specs.Plan.{PlanOk};
 ghost use Rattle.table.specs.Layout.{seats};
 ghost use Rattle.table.specs.Block.{farmOf, Whole, Holds};
 ghost use Rattle.site.specs.Site.{Sited};
-ghost use Rattle.stream.specs.Took.{eventOf, takenOf};
-ghost use Rattle.farm_bytes.specs.Bytes.{idleAfter, storedLong, payloadLong, BytesDid};
-use kinds::Clock;
-use kinds::Event;
+ghost use Rattle.stream.specs.Took.{takenOf};
+ghost use Rattle.farm_bytes.specs.Bytes.{BytesDid};
 use kinds::FarmNo;
-use kinds::Meters;
-use kinds::Place;
 use kinds::Row;
-use kinds::RowState;
 use kinds::Site;
 use line::settle;
 use messages::message;
 use stream::Took;
-
-// The bytes of a header.
-const HEAD: u32 = 8;
-
-// A meter counts modulo this.
-const METER: usize = 4294967296;
 
 // How many bytes were taken, and how many bytes of the row's room are the payload of the message that is finished.
 pub struct Heard {
@@ -43,59 +30,6 @@ pub struct Heard {
 
 // ---- the row
 
-// "An active row's idle count goes to 0 with each call that takes a byte from it": one that takes none leaves it.
-fn idle_after(count: usize, idle: Clock) -> Clock
-    ensures { λ r. ⌜ r ≡ idleAfter count idle ⌝ }
-{
-    if count == 0 {
-        return idle;
-    }
-    Clock::fresh()
-}
-
-fn heard_state(count: usize, state: RowState) -> RowState
-    ensures { λ r. ⌜ r ≡ heardState count state ⌝ }
-{
-    match state {
-        RowState::Free => RowState::Free,
-        RowState::Fresh(age) => RowState::Fresh(age),
-        RowState::Waiting(q) => RowState::Waiting(q),
-        RowState::Active(a, idle) => RowState::Active(a, idle_after(count, idle)),
-    }
-}
-
-// ---- the meters
-
-// "taken (bytes taken)". A count may be more than a meter holds: only the meter wraps.
-fn took(m: Meters, count: usize) -> Meters
-    ensures { λ r. ⌜ r ≡ tookMore count m ⌝ }
-{
-    table_meters::took(m, 0, (count % METER) as u32)
-}
-
-// "8 for a header that closes"; a header whose payload is skipped is not finished yet.
-fn over(m: Meters, place: Place) -> Meters
-    ensures { λ r. ⌜ r ≡ finishedMore (overAt place) m ⌝ }
-{
-    match place {
-        Place::Header(_) => table_meters::ended(m, HEAD, 0),
-        Place::Reading(_) => table_meters::ended(m, 0, 0),
-        Place::Skipping(_) => table_meters::ended(m, 0, 0),
-    }
-}
-
-// "finished (8 plus payload for each message wholly read or skipped; 8 for a header that closes)"
-fn ended(m: Meters, event: Event, place: Place) -> Meters
-    ensures { λ r. ⌜ r ≡ finishedMore (endedBy (eventOf event) (streamOf place noHead [])) m ⌝ }
-{
-    match event {
-        Event::InputEnded => table_meters::ended(m, 0, 0),
-        Event::Wrong(_) => over(m, place),
-        Event::Finished(_, size) => table_meters::ended(m, HEAD, size),
-        Event::Skipped(size) => table_meters::ended(m, HEAD, size),
-    }
-}
-
 // The row with its new place, and the meters. The room is not looked at.
 fn hear(b: &mut [u8], seat: usize, t: Took)
     requires { ⌜ (seat < seats) × Whole (now b) ⌝ }
@@ -104,33 +38,10 @@ fn hear(b: &mut [u8], seat: usize, t: Took)
     let event = t.event;
     let place = t.place;
     let head = t.head;
-    let state = heard_state(t.count, table::row::state_at(b, seat));
-    let m = took(table_meters::meters_at(b), t.count);
+    let state = farm_heard::heard_state(t.count, table::row::state_at(b, seat));
+    let m = farm_heard::took(table_meters::meters_at(b), t.count);
     table::row::put_row(b, seat, Row { state, place, head });
-    table_meters::put_meters(b, ended(m, event, place));
-}
-
-// ---- the payload
-
-// What is read and dropped is not stored: of such a message nothing is handed on.
-fn stored(kind: u16, size: u32) -> usize
-    ensures { λ r. ⌜ r ≡ storedLong kind size ⌝ }
-{
-    if stream::is_stored(kind) {
-        return size as usize;
-    }
-    0
-}
-
-fn payload_long(event: Event) -> usize
-    ensures { λ r. ⌜ r ≡ payloadLong (eventOf event) ⌝ }
-{
-    match event {
-        Event::InputEnded => 0,
-        Event::Wrong(_) => 0,
-        Event::Finished(kind, size) => stored(kind, size),
-        Event::Skipped(_) => 0,
-    }
+    table_meters::put_meters(b, farm_heard::ended(m, event, place));
 }
 
 // ---- the call
@@ -158,6 +69,6 @@ pub fn bytes(
     settle::settle(b, p, site);
     Heard {
         count: t.count,
-        long: payload_long(event),
+        long: farm_heard::payload_long(event),
     }
 }

@@ -10,7 +10,6 @@ ghost use Rattle.decide.specs.SiteSheet.{siteSheet};
 ghost use Rattle.closing.specs.Did.{RowsFit, Seated, Did};
 use kinds::Site;
 use rowwork::answer;
-use rowwork::check;
 
 fn decide_head(b: &mut [u8], p: &mut [u8], site: Site)
     requires { ⌜ Seated (farmOf (now b) .line) × RowsFit site × Whole (now b) × PlanOk (now p) ⌝ }
@@ -35,7 +34,7 @@ fn advance_line(b: &mut [u8], p: &mut [u8], site: Site)
     requires { ⌜ (0 < length (farmOf (now b) .line)) × Seated (farmOf (now b) .line) × RowsFit site × Whole (now b) × PlanOk (now p) ⌝ }
     ensures { λ _. ⌜ Did (now (p .entry)) (now (b .exit)) (now (p .exit)) (andThen (advanced (siteSheet site) (drop 1 (farmOf (now (b .entry)) .line)) (farmOf (now (b .entry)))) (settleLine (siteSheet site) (drop 1 (farmOf (now (b .entry)) .line)))) ⌝ }
 {
-    check::advance(b, p, site);
+    alive::advance(b, p, site);
     decide_head(b, p, site);
 }
 

@@ -13,7 +13,6 @@ use kinds::Decision;
 use kinds::Request;
 use kinds::RowState;
 use kinds::Site;
-use rowwork::check;
 
 // "A request that needs a check joins the end of its farm's line, the head being place 1; only the head's check runs."
 pub fn join_line(b: &mut [u8], p: &mut [u8], site: Site, seat: usize, q: Request)
@@ -24,7 +23,7 @@ pub fn join_line(b: &mut [u8], p: &mut [u8], site: Site, seat: usize, q: Request
     table::row::put_row(b, seat, say::row_of(RowState::Waiting(q)));
     table_line::join(b, seat);
     if n == 0 {
-        check::start(b, p, site);
+        alive::start(b, p, site);
     }
 }
 
@@ -39,7 +38,7 @@ pub fn leave_line(b: &mut [u8], p: &mut [u8], site: Site, seat: usize)
     }
     let head = table_line::seat_at(b, 0);
     if seat == head {
-        check::advance(b, p, site);
+        alive::advance(b, p, site);
         return;
     }
     table_line::leave(b, seat);

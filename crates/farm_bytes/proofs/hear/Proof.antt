@@ -1,7 +1,7 @@
 -- `hear` meets its contract.
 -- Assumes nothing.
 use Prim.Native.Nat.{ℕ}
-use Rattle.farm_bytes.proofs.BytesLaws.{ended-same}
+use Rattle.farm_heard.proofs.HeardLaws.{ended-same}
 use mathlib.Core.Path.{_≡_, ap, _∙_}
 use mathlib.Core.List.{[]}
 use Rattle.kinds.specs.declared.Meters.{Meters}

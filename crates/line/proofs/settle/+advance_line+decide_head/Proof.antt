@@ -29,7 +29,7 @@ use Rattle.line.proofs.settle.decide_head.Kinds as decide-head-kinds
 use Rattle.line.proofs.settle.+advance_line+decide_head.Lts-decide_head as decide-head-lts
 use Rattle.decide.proofs.is_pending.Reads as is-pending-reads
 use Rattle.rowwork.proofs.answer.act.Reads as act-reads
-use Rattle.rowwork.proofs.check.advance.Reads as advance-reads
+use Rattle.alive.proofs.advance.Reads as advance-reads
 use Rattle.decide.proofs.head_verdict.Reads as head-verdict-reads
 use Rattle.decide.proofs.wanted.Reads as wanted-reads
 use Rattle.table_line.proofs.seat_at.Reads as seat-at-reads
