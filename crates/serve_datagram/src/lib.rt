@@ -46,7 +46,7 @@ pub fn reply(s: &[u8], t: &[u8], out: &mut [u8], f: FarmNo, input: &[u8]) -> Ans
 {
     let farm = farms::record_of(s, f);
     let n = at::open_rows(t, f);
-    let a = datagram::answer(input, farm, n as u8);
+    let a = datagram_answer::answer(input, farm, n as u8);
     let mut space = [0; PLAN];
     let p: &mut [u8] = &mut space;
     plan::empty(p);

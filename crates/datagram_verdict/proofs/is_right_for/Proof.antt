@@ -3,8 +3,8 @@
 use mathlib.Core.Path.{sym}
 use borrow.Author.Tests.{ne-eqb, eq-eqb, lt-leb, le-leb}
 use Rattle.octets.proofs.ChoiceLaws.{either-none}
-use Rattle.datagram.proofs.is_right_for.Statement.{statement}
-use Rattle.datagram.proofs.is_right_for.Tie as tie
+use Rattle.datagram_verdict.proofs.is_right_for.Statement.{statement}
+use Rattle.datagram_verdict.proofs.is_right_for.Tie as tie
 
 returns : tie.Need-returns
 returns c = rw (c .before .if1 .taken) (sym (either-none _))

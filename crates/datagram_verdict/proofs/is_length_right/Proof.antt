@@ -3,8 +3,8 @@
 use mathlib.Core.Path.{sym, _∙_}
 use borrow.Author.Tests.{not-true, not-false}
 use borrow.Author.Needs.{needs}
-use Rattle.datagram.proofs.is_length_right.Statement.{statement}
-use Rattle.datagram.proofs.is_length_right.Tie as tie
+use Rattle.datagram_verdict.proofs.is_length_right.Statement.{statement}
+use Rattle.datagram_verdict.proofs.is_length_right.Tie as tie
 
 length-fits-requires : tie.Need-length-fits-requires
 length-fits-requires c κs = search needs

@@ -2,8 +2,8 @@
 -- Assumes nothing.
 use mathlib.Core.Path.{sym, _∙_}
 use borrow.Author.Needs.{needs}
-use Rattle.datagram.proofs.if_named.Statement.{statement}
-use Rattle.datagram.proofs.if_named.Tie as tie
+use Rattle.datagram_answer.proofs.if_named.Statement.{statement}
+use Rattle.datagram_answer.proofs.if_named.Tie as tie
 
 same-requires : tie.Need-same-requires
 same-requires c κs = search needs

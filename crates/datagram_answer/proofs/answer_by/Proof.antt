@@ -2,10 +2,10 @@
 -- Assumes nothing.
 use mathlib.Core.Path.{_∙_}
 use borrow.Author.Tests.{ne-eqb, eq-eqb}
 use Rattle.datagram.specs.Datagram.{answerBy}
 use borrow.Author.Needs.{needs}
-use Rattle.datagram.proofs.answer_by.Statement.{statement}
-use Rattle.datagram.proofs.answer_by.Tie as tie
+use Rattle.datagram_answer.proofs.answer_by.Statement.{statement}
+use Rattle.datagram_answer.proofs.answer_by.Tie as tie
 
 returns : tie.Need-returns
 unfolding answerBy

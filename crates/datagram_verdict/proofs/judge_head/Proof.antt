@@ -2,10 +2,10 @@
 -- Assumes nothing.
 use mathlib.Core.Path.{sym, _∙_}
 use borrow.Author.Tests.{not-true, not-false}
 use Rattle.datagram.specs.Datagram.{headVerdict}
 use borrow.Author.Needs.{needs}
-use Rattle.datagram.proofs.judge_head.Statement.{statement}
-use Rattle.datagram.proofs.judge_head.Tie as tie
+use Rattle.datagram_verdict.proofs.judge_head.Statement.{statement}
+use Rattle.datagram_verdict.proofs.judge_head.Tie as tie
 
 is-right-for-requires : tie.Need-is-right-for-requires
 is-right-for-requires c κs = search needs

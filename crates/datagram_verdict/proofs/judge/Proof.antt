@@ -7,10 +7,10 @@ use denote.Ref.{now}
 use lib.ListN.{length}
 use Rattle.wire.specs.declared.header.Header.{Header}
 use Rattle.wire.specs.Header.{headerAt}
 use Rattle.datagram.specs.Datagram.{datagramVerdict, headVerdict}
 use borrow.Author.Needs.{needs}
-use Rattle.datagram.proofs.judge.Statement.{statement}
-use Rattle.datagram.proofs.judge.Tie as tie
+use Rattle.datagram_verdict.proofs.judge.Statement.{statement}
+use Rattle.datagram_verdict.proofs.judge.Tie as tie
 
 returns : tie.Need-returns
 unfolding datagramVerdict

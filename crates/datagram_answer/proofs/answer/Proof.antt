@@ -10,11 +10,11 @@ use lib.Seq.{take-all}
 use Rattle.kinds.specs.declared.DatagramVerdict.the-variants.{Passes}
 use Rattle.wire.specs.declared.header.Header.{Header}
 use Rattle.wire.specs.Header.{headerAt}
 use Rattle.datagram.specs.Datagram.{datagramVerdict, answerBy, answerTo}
 use Rattle.datagram.proofs.DatagramLaws.{passes-long}
 use borrow.Author.Needs.{needs}
-use Rattle.datagram.proofs.answer.Statement.{statement}
-use Rattle.datagram.proofs.answer.Tie as tie
+use Rattle.datagram_answer.proofs.answer.Statement.{statement}
+use Rattle.datagram_answer.proofs.answer.Tie as tie
 
 -- in the arm of a right datagram
 verdict : (c : tie.After-enum-told2) → datagramVerdict (now (c .before .before .before .before .before .args .d)) ≡ Passes
