@@ -1,5 +1,5 @@
 -- Wrong cores that are shut out (document 01, "What the regulator reads"): one that always refuses, and one that always says 10. (One that
--- does nothing is shut out by the bound; one that decides on joining by two days with one beginning: crate days, FurtherClaim.)
+-- does nothing is shut out by the bound; one that decides on joining by two days with one beginning: crate days_further.)
 -- Assumes nothing.
 use Prim.Native.Nat.{ℕ, zero, suc, _+_, _≤_, _<_}
 use mathlib.Core.Path.{_≡_, refl, sym, ap, _∙_}

@@ -2,6 +2,8 @@
 // `explain`, tells each call in words.
 use libc::STDERR_FILENO;
 
+mod dayfile; // dayfile.rt: the day's file, read in pieces
+
 // What the second argument asks for.
 enum Style {
     Lines,

@@ -1,4 +1,4 @@
--- Where everything of a farm's block stands. No other crate knows a place of it.
+-- Where everything of a farm's block stands. Only this crate, rowbytes, table_meters, table_line and table_whole know a place of it.
 -- Assumes nothing: these are definitions.
 use Prim.Native.Nat.{ℕ, _+_, _*_}
 use Rattle.rowbytes.specs.RowLayout.{rowSize}

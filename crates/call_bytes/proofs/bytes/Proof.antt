@@ -1,4 +1,4 @@
--- `bytes::bytes` meets its contract.
+-- `bytes` meets its contract.
 -- Assumes nothing.
 use mathlib.Core.Path.{_≡_, refl, sym, ap, _∙_}
 use native.Mathlib.Omega.{arith}

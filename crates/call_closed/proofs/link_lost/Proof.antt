@@ -1,4 +1,4 @@
--- `closed::link_lost` meets its contract.
+-- `link_lost` meets its contract.
 -- Assumes nothing.
 use Rattle.model.specs.Table.{whose, leastOutput}
 use mathlib.Core.Path.{refl, sym, _∙_}

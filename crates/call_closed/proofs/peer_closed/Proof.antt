@@ -1,4 +1,4 @@
--- `closed::peer_closed` meets its contract.
+-- `peer_closed` meets its contract.
 -- Assumes nothing.
 use Rattle.model.specs.Table.{whose, leastOutput}
 use Rattle.sheet.specs.declared.rows.Owner.the-variants.{Seat}

@@ -1,4 +1,4 @@
--- `connect::connect` meets its contract.
+-- `connect` meets its contract.
 -- Assumes nothing.
 use Prim.Native.Nat.{ℕ, _+_, _≤_, _<_}
 use Rattle.sheet.specs.Sheet.{mostRows}

@@ -1,4 +1,4 @@
--- `controller::controller_message` meets its contract.
+-- `controller_message` meets its contract.
 -- Assumes nothing.
 use mathlib.Core.Path.{sym, refl, _∙_}
 use native.Mathlib.Omega.{arith}

@@ -1,4 +1,4 @@
--- `datagrams::datagram` meets its contract.
+-- `datagram` meets its contract.
 -- Assumes nothing.
 use mathlib.Core.Path.{sym, refl, _∙_}
 use native.Mathlib.Omega.{arith}

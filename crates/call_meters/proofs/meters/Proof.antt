@@ -1,4 +1,4 @@
--- `meters::meters` meets its contract.
+-- `meters` meets its contract.
 -- Assumes nothing.
 use mathlib.Core.Path.{_∙_}
 use native.Mathlib.Omega.{arith}

@@ -1,4 +1,4 @@
--- `meters::meters_at` meets its contract.
+-- `meters_at` meets its contract.
 -- Assumes nothing.
 use mathlib.Core.Path.{ap, _∙_}
 use mathlib.Core.List.{List}

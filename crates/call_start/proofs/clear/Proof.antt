@@ -1,4 +1,4 @@
--- `start::clear` meets its contract.
+-- `clear` meets its contract.
 -- Assumes nothing.
 use Prim.Native.Nat.{_-_}
 use native.Mathlib.Omega.{arith}

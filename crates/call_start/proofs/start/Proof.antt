@@ -1,4 +1,4 @@
--- `start::start` meets its contract.
+-- `start` meets its contract.
 -- Assumes nothing.
 use mathlib.Core.Path.{_∙_, sym}
 use native.Mathlib.Omega.{arith}

@@ -1,4 +1,4 @@
--- `tick::tick` meets its contract.
+-- `tick` meets its contract.
 -- Assumes nothing.
 use mathlib.Core.Path.{_∙_, sym}
 use native.Mathlib.Omega.{arith}

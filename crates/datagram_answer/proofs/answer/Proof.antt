@@ -1,4 +1,4 @@
--- `datagram::answer` meets its contract: the verdict's three cases.
+-- `answer` meets its contract: the verdict's three cases.
 -- Assumes nothing.
 use mathlib.Core.Path.{_≡_, sym, ap, _∙_}
 use mathlib.Core.List.{List}

@@ -1,4 +1,4 @@
--- `datagram::answer_by` meets its contract: at each return the tests that led there say which type it is.
+-- `answer_by` meets its contract: at each return the tests that led there say which type it is.
 -- Assumes nothing.
 use mathlib.Core.Path.{_∙_}
 use borrow.Author.Tests.{ne-eqb, eq-eqb}

@@ -1,4 +1,4 @@
--- `datagram::if_named` meets its contract.
+-- `if_named` meets its contract.
 -- Assumes nothing.
 use mathlib.Core.Path.{sym, _∙_}
 use borrow.Author.Needs.{needs}

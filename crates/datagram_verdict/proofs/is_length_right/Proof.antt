@@ -1,4 +1,4 @@
--- `datagram::is_length_right` meets its contract.
+-- `is_length_right` meets its contract.
 -- Assumes nothing.
 use mathlib.Core.Path.{sym, _∙_}
 use borrow.Author.Tests.{not-true, not-false}

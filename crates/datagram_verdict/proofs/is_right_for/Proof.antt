@@ -1,4 +1,4 @@
--- `datagram::is_right_for` meets its contract: at each return the tests that led there decide.
+-- `is_right_for` meets its contract: at each return the tests that led there decide.
 -- Assumes nothing.
 use mathlib.Core.Path.{sym}
 use borrow.Author.Tests.{ne-eqb, eq-eqb, lt-leb, le-leb}

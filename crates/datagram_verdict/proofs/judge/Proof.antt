@@ -1,4 +1,4 @@
--- `datagram::judge` meets its contract: what is never answered first, then the header's own order.
+-- `judge` meets its contract: what is never answered first, then the header's own order.
 -- Assumes nothing.
 use mathlib.Core.Path.{_≡_, sym, ap, _∙_}
 use Prim.Native.Nat.{_-_}

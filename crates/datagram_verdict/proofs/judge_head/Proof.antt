@@ -1,4 +1,4 @@
--- `datagram::judge_head` meets its contract: at each return the tests that led there say which rule decides.
+-- `judge_head` meets its contract: at each return the tests that led there say which rule decides.
 -- Assumes nothing.
 use mathlib.Core.Path.{sym, _∙_}
 use borrow.Author.Tests.{not-true, not-false}

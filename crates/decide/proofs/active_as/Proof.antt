@@ -1,4 +1,4 @@
--- `decide::active_as` meets its contract.
+-- `active_as` meets its contract.
 -- Assumes nothing.
 use mathlib.Core.Path.{ap, _∙_}
 use Rattle.model.specs.Row.{activeAsState}

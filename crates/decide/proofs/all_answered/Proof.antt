@@ -1,4 +1,4 @@
--- `decide::all_answered` meets its contract.
+-- `all_answered` meets its contract.
 -- Assumes nothing.
 use mathlib.Core.Path.{_≡_, refl, sym, _∙_}
 use mathlib.Core.Bool.{true, false}

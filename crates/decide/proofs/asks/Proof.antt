@@ -1,4 +1,4 @@
--- `decide::asks` meets its contract.
+-- `asks` meets its contract.
 -- Assumes nothing.
 use mathlib.Core.Path.{ap, _∙_}
 use lib.Dec.{eqb}

@@ -1,4 +1,4 @@
--- `decide::by_places` meets its contract.
+-- `by_places` meets its contract.
 -- Assumes nothing.
 use Prim.Native.Nat.{_≤_, _<_}
 use native.Mathlib.Omega.{arith}

@@ -1,4 +1,4 @@
--- `decide::check_verdict` meets its contract.
+-- `check_verdict` meets its contract.
 -- Assumes nothing.
 use mathlib.Core.Path.{_≡_, sym, ap, _∙_}
 use mathlib.Core.Bool.{Bool, true, false}

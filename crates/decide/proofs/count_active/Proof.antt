@@ -1,4 +1,4 @@
--- `decide::count_active` meets its contract.
+-- `count_active` meets its contract.
 -- Assumes nothing.
 use mathlib.Core.Path.{_≡_, sym, _∙_}
 use mathlib.Core.List.{List}

@@ -1,4 +1,4 @@
--- `decide::head_verdict` meets its contract.
+-- `head_verdict` meets its contract.
 -- Assumes nothing.
 use mathlib.Core.Path.{sym, ap, _∙_}
 use Rattle.model.specs.Line.{verdictBy, headVerdict}

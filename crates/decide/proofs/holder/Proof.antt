@@ -1,4 +1,4 @@
--- `decide::holder` meets its contract.
+-- `holder` meets its contract.
 -- Assumes nothing.
 use mathlib.Core.Path.{_≡_, refl, sym, _∙_}
 use Prim.Native.Nat.{_-_, _≤_}

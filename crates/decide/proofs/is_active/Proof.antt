@@ -1,4 +1,4 @@
--- `decide::is_active` meets its contract.
+-- `is_active` meets its contract.
 -- Assumes nothing.
 use mathlib.Core.Path.{ap, _∙_}
 use Rattle.model.specs.Row.{isActiveState}

@@ -1,4 +1,4 @@
--- `decide::is_silent` meets its contract.
+-- `is_silent` meets its contract.
 -- Assumes nothing.
 use mathlib.Core.Path.{_∙_}
 use borrow.Author.Needs.{needs}

@@ -1,4 +1,4 @@
--- `decide::rules_for` meets its contract.
+-- `rules_for` meets its contract.
 -- Assumes nothing.
 use mathlib.Core.Path.{ap, _∙_}
 use Rattle.model.specs.Line.{socketRules}

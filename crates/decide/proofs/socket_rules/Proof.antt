@@ -1,4 +1,4 @@
--- `decide::socket_rules` meets its contract.
+-- `socket_rules` meets its contract.
 -- Assumes nothing.
 use mathlib.Core.Path.{sym, ap, _∙_}
 use native.Mathlib.Omega.{arith}

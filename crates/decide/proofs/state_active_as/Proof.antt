@@ -1,4 +1,4 @@
--- `decide::state_active_as` meets its contract.
+-- `state_active_as` meets its contract.
 -- Assumes nothing.
 use borrow.Author.Needs.{needs}
 use Rattle.decide.proofs.state_active_as.Statement.{statement}

@@ -1,4 +1,4 @@
--- `decide::wanted` meets its contract.
+-- `wanted` meets its contract.
 -- Assumes nothing.
 use mathlib.Core.Path.{ap, _∙_}
 use Rattle.model.specs.Row.{wantedBy}

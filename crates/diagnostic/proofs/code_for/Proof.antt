@@ -1,4 +1,4 @@
--- `diagnostic::code_for` meets its contract.
+-- `code_for` meets its contract.
 -- Assumes nothing.
 use Rattle.sheet.proofs.LengthLaws.{good-lengths}
 use mathlib.Core.Path.{sym, _∙_}

@@ -1,4 +1,4 @@
--- `diagnostic::diagnose` meets its contract.
+-- `diagnose` meets its contract.
 -- Assumes nothing.
 use mathlib.Core.Path.{refl, sym, _∙_}
 use Rattle.model.specs.FarmSheet.{FarmSheet, farmSheet}

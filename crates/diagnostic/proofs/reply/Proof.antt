@@ -1,4 +1,4 @@
--- `diagnostic::reply` meets its contract.
+-- `reply` meets its contract.
 -- Assumes nothing.
 use mathlib.Core.Path.{sym, ap, _∙_}
 use mathlib.Core.List.{List}

@@ -1,4 +1,4 @@
--- `ask::is_free` meets its contract.
+-- `is_free` meets its contract.
 -- Assumes nothing.
 use mathlib.Core.Path.{ap, _∙_}
 use Rattle.model.specs.Row.{isFreeState}

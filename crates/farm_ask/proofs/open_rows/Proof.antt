@@ -1,4 +1,4 @@
--- `ask::open_rows` meets its contract.
+-- `open_rows` meets its contract.
 -- Assumes nothing.
 use mathlib.Core.Path.{_≡_, sym, _∙_}
 use mathlib.Core.List.{List}

@@ -1,4 +1,4 @@
--- `controller::is_target` meets its contract.
+-- `is_target` meets its contract.
 -- Assumes nothing.
 use Rattle.sheet.proofs.LengthLaws.{good-lengths}
 use mathlib.Core.Path.{sym, ap, _∙_}

@@ -1,4 +1,4 @@
--- `controller::message` meets its contract.
+-- `message` meets its contract.
 -- Assumes nothing.
 use mathlib.Core.Path.{sym, _∙_}
 use native.Mathlib.Omega.{arith}

@@ -1,4 +1,4 @@
--- `controller::size_fits` meets its contract.
+-- `size_fits` meets its contract.
 -- Assumes nothing.
 use native.Mathlib.Omega.{arith}
 use borrow.Author.Tests.{le-leb, lt-leb}

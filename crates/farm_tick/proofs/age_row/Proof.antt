@@ -1,4 +1,4 @@
--- `tick::age_row` meets its contract.
+-- `age_row` meets its contract.
 -- Assumes nothing.
 use mathlib.Core.Path.{refl, sym, _∙_}
 use Rattle.table.specs.Block.{farmOf}

@@ -1,4 +1,4 @@
--- `tick::age_rows` meets its contract.
+-- `age_rows` meets its contract.
 -- Assumes nothing.
 use mathlib.Core.Path.{sym, _∙_}
 use Prim.Native.Nat.{_-_, _≤_}

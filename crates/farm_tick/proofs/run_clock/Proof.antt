@@ -1,4 +1,4 @@
--- `tick::run_clock` meets its contract.
+-- `run_clock` meets its contract.
 -- Assumes nothing.
 use mathlib.Core.Path.{sym, ap, _∙_}
 use Rattle.kinds.specs.Clock.{stepped}

@@ -1,4 +1,4 @@
--- `answer::finish_empty` meets its contract.
+-- `finish_empty` meets its contract.
 -- Assumes nothing.
 use mathlib.Core.List.{[]}
 use Rattle.finish.proofs.AnswerLaws.{room-none, wrote-items}

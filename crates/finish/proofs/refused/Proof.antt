@@ -1,4 +1,4 @@
--- `answer::refused` meets its contract.
+-- `refused` meets its contract.
 -- Assumes nothing.
 use mathlib.Core.Path.{refl}
 use Rattle.model.specs.Move.{noRow}

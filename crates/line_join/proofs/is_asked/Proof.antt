@@ -1,4 +1,4 @@
--- `join::is_asked` meets its contract.
+-- `is_asked` meets its contract.
 -- Assumes nothing.
 use mathlib.Core.Path.{_≡_, sym, ap, _∙_}
 use Prim.Native.Nat.{ℕ}

@@ -1,4 +1,4 @@
--- `join::join_line` meets its contract.
+-- `join_line` meets its contract.
 -- Assumes nothing.
 use mathlib.Core.Path.{_≡_, sym, ap, _∙_}
 use mathlib.Core.List.{[], _∷_, _++_}

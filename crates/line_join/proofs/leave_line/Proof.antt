@@ -1,4 +1,4 @@
--- `join::leave_line` meets its contract.
+-- `leave_line` meets its contract.
 -- Assumes nothing.
 use mathlib.Core.Path.{_≡_, sym, _∙_}
 use lib.ListN.{length}

@@ -1,4 +1,4 @@
--- `join::mark_row` meets its contract.
+-- `mark_row` meets its contract.
 -- Assumes nothing.
 use mathlib.Core.Path.{sym, ap, _∙_}
 use mathlib.Core.Bool.{Bool, true}

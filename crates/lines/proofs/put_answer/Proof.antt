@@ -1,4 +1,4 @@
--- `lines::put_answer` meets its contract.
+-- `put_answer` meets its contract.
 -- Assumes nothing.
 use native.Mathlib.Omega.{arith}
 use Rattle.lines.specs.Lines.{answerLine}

@@ -1,4 +1,4 @@
--- `lines::put_ending` meets its contract.
+-- `put_ending` meets its contract.
 -- Assumes nothing.
 use borrow.Author.Needs.{needs}
 use Rattle.lines.proofs.put_ending.Statement.{statement}

@@ -1,4 +1,4 @@
--- `lines::put_farm` meets its contract.
+-- `put_farm` meets its contract.
 -- Assumes nothing.
 use native.Mathlib.Omega.{arith}
 use Rattle.lines.specs.Lines.{farmLine}

@@ -1,4 +1,4 @@
--- `lines::put_last` meets its contract.
+-- `put_last` meets its contract.
 -- Assumes nothing.
 use native.Mathlib.Omega.{arith}
 use Rattle.lines.proofs.TextLaws.{wrote-more}

@@ -1,4 +1,4 @@
--- `lines::put_named` meets its contract.
+-- `put_named` meets its contract.
 -- Assumes nothing.
 use native.Mathlib.Omega.{arith}
 use Rattle.lines.proofs.TextLaws.{length-decimal, wrote-more}

@@ -1,4 +1,4 @@
--- `lines::put_sheet` meets its contract.
+-- `put_sheet` meets its contract.
 -- Assumes nothing.
 use borrow.Author.Tests.{eq-eqb, ne-eqb}
 use borrow.Author.Needs.{needs}

@@ -1,4 +1,4 @@
--- `layout::put_identity` meets its contract: five puts in a row are one, of the message's bytes.
+-- `put_identity` meets its contract: five puts in a row are one, of the message's bytes.
 -- Assumes nothing.
 use mathlib.Core.Path.{_≡_, ap, _∙_}
 use mathlib.Core.List.{List, [], _∷_}

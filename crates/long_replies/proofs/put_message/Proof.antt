@@ -1,4 +1,4 @@
--- `layout::put_message` meets its contract: two puts in a row are one, of the message's bytes.
+-- `put_message` meets its contract: two puts in a row are one, of the message's bytes.
 -- Assumes nothing.
 use mathlib.Core.Path.{ap, _∙_}
 use mathlib.Core.List.{List, _∷_, _++_}

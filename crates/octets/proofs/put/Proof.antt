@@ -1,4 +1,4 @@
--- `octets::put` meets its contract: the loop has pasted the first j bytes; a turn is `lib.Seq`'s `paste-suc`.
+-- `put` meets its contract: the loop has pasted the first j bytes; a turn is `lib.Seq`'s `paste-suc`.
 -- Assumes nothing.
 use mathlib.Core.Path.{_≡_, refl, sym, ap, _∙_}
 use mathlib.Core.List.{List, _++_}

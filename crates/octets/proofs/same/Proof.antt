@@ -1,4 +1,4 @@
--- `octets::same` meets its contract: what is left of the two lists decides.
+-- `same` meets its contract: what is left of the two lists decides.
 -- Assumes nothing.
 use mathlib.Core.Path.{_≡_, refl, sym, _∙_}
 use Prim.Native.Nat.{_-_, _≤_}

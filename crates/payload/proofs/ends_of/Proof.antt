@@ -1,4 +1,4 @@
--- `wire::payload::ends_of` meets its contract: each field is what was read.
+-- `ends_of` meets its contract: each field is what was read.
 -- Assumes nothing.
 use borrow.Author.Needs.{needs}
 use Rattle.payload.proofs.ends_of.Statement.{statement}

@@ -1,4 +1,4 @@
--- `wire::payload::request_of` meets its contract: each field is what was read.
+-- `request_of` meets its contract: each field is what was read.
 -- Assumes nothing.
 use borrow.Author.Needs.{needs}
 use Rattle.payload.proofs.request_of.Statement.{statement}

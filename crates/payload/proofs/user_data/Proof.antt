@@ -1,4 +1,4 @@
--- `wire::payload::user_data` meets its contract: a part that goes to the end is the rest.
+-- `user_data` meets its contract: a part that goes to the end is the rest.
 -- Assumes nothing.
 use Prim.Native.Nat.{_-_}
 use native.Mathlib.Omega.{arith}

@@ -1,4 +1,4 @@
--- `place::is_boundary` meets its contract.
+-- `is_boundary` meets its contract.
 -- Assumes nothing.
 use borrow.Author.Needs.{needs}
 use Rattle.place_rules.proofs.is_boundary.Statement.{statement}

@@ -1,4 +1,4 @@
--- `place::none_in_hand` meets its contract.
+-- `none_in_hand` meets its contract.
 -- Assumes nothing.
 use borrow.Author.Needs.{needs}
 use mathlib.Core.Path.{_≡_, sym, ap, _∙_}

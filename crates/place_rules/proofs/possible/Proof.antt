@@ -1,4 +1,4 @@
--- `place::possible` meets its contract.
+-- `possible` meets its contract.
 -- Assumes nothing.
 use mathlib.Core.Path.{sym, ap, _∙_}
 use Rattle.kinds.specs.declared.Place.{Place}

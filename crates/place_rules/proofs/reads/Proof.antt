@@ -1,4 +1,4 @@
--- `place::reads` meets its contract.
+-- `reads` meets its contract.
 -- Assumes nothing.
 use mathlib.Core.Path.{sym, ap, _∙_}
 use lib.Dec.{ltb}

@@ -1,4 +1,4 @@
--- `place::rest_zero` meets its contract.
+-- `rest_zero` meets its contract.
 -- Assumes nothing.
 use borrow.Author.Needs.{needs}
 use mathlib.Core.Path.{sym, ap, _∙_}

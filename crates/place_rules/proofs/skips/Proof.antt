@@ -1,4 +1,4 @@
--- `place::skips` meets its contract.
+-- `skips` meets its contract.
 -- Assumes nothing.
 use mathlib.Core.Path.{sym, ap, _∙_}
 use lib.Dec.{ltb}

@@ -1,4 +1,4 @@
--- `place::tidy` meets its contract.
+-- `tidy` meets its contract.
 -- Assumes nothing.
 use borrow.Author.Needs.{needs}
 use mathlib.Core.Path.{sym, ap, _∙_}

@@ -1,4 +1,4 @@
--- `place::zeros_from` meets its contract.
+-- `zeros_from` meets its contract.
 -- Assumes nothing.
 use borrow.Author.Needs.{needs}
 use mathlib.Core.Path.{_≡_, sym}

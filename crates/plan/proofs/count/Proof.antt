@@ -1,4 +1,4 @@
--- `plan::count` meets its contract: the smaller of the first byte and the room is the number of items.
+-- `count` meets its contract: the smaller of the first byte and the room is the number of items.
 -- Assumes nothing.
 use native.Mathlib.Omega.{arith}
 use denote.Ref.{now}

@@ -1,4 +1,4 @@
--- `plan::empty` meets its contract: a plan whose count is 0 says nothing.
+-- `empty` meets its contract: a plan whose count is 0 says nothing.
 -- Assumes nothing.
 use denote.Ref.{now}
 use Rattle.plan.proofs.PlanLaws.{cleared}

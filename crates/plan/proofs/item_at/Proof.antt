@@ -1,4 +1,4 @@
--- `plan::item_at` meets its contract: the bytes that it reads are those of the item's part.
+-- `item_at` meets its contract: the bytes that it reads are those of the item's part.
 -- Assumes nothing.
 use mathlib.Core.Path.{_≡_, refl, ap, _∙_}
 use mathlib.Core.List.{List}

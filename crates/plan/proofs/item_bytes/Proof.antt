@@ -1,4 +1,4 @@
--- `plan::item_bytes` meets its contract, one line for each kind of reply.
+-- `item_bytes` meets its contract, one line for each kind of reply.
 -- Assumes nothing.
 use mathlib.Core.Path.{_≡_, sym, ap, _∙_}
 use mathlib.Core.List.{List, _∷_}

@@ -1,4 +1,4 @@
--- `plan::push` meets its contract: an item behind the others and a count one higher, or a full plan.
+-- `push` meets its contract: an item behind the others and a count one higher, or a full plan.
 -- Assumes nothing.
 use mathlib.Core.Path.{refl, ap, _∙_}
 use mathlib.Core.List.{List}

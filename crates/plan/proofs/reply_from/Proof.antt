@@ -1,4 +1,4 @@
--- `plan::reply_from` meets its contract: each arm is the first tag that fits.
+-- `reply_from` meets its contract: each arm is the first tag that fits.
 -- Assumes nothing.
 use Prim.Native.Nat.{ℕ}
 use borrow.Author.Tests.{ne-eqb}

@@ -1,4 +1,4 @@
--- `request::again` meets its contract.
+-- `again` meets its contract.
 -- Assumes nothing.
 use Rattle.model.specs.Line.{accepted}
 use Rattle.request.proofs.RequestLaws.{again-same, again-other}

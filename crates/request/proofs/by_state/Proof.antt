@@ -1,4 +1,4 @@
--- `request::by_state` meets its contract.
+-- `by_state` meets its contract.
 -- Assumes nothing.
 use mathlib.Core.Path.{sym, ap, _∙_}
 use Rattle.model.specs.Line.{byState}

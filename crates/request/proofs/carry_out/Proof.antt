@@ -1,4 +1,4 @@
--- `request::carry_out` meets its contract.
+-- `carry_out` meets its contract.
 -- Assumes nothing.
 use borrow.Author.Needs.{needs}
 use Rattle.request.proofs.carry_out.Statement.{statement}

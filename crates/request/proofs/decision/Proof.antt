@@ -1,4 +1,4 @@
--- `request::decision` meets its contract.
+-- `decision` meets its contract.
 -- Assumes nothing.
 use Rattle.sheet.proofs.LengthLaws.{good-lengths}
 use borrow.Author.Tests.{not-true, not-false}

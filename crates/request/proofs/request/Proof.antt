@@ -1,4 +1,4 @@
--- `request::request` meets its contract.
+-- `request` meets its contract.
 -- Assumes nothing.
 use mathlib.Core.Path.{ap, _∙_}
 use Rattle.kinds.specs.declared.Decision.{Decision}

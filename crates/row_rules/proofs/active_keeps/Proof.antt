@@ -1,4 +1,4 @@
--- `seat::active_keeps` meets its contract.
+-- `active_keeps` meets its contract.
 -- Assumes nothing.
 use mathlib.Core.Path.{sym, ap, _∙_}
 use mathlib.Core.Bool.{not}

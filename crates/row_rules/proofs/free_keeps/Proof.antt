@@ -1,4 +1,4 @@
--- `seat::free_keeps` meets its contract.
+-- `free_keeps` meets its contract.
 -- Assumes nothing.
 use mathlib.Core.Path.{sym, ap, _∙_}
 use Prim.Native.Nat.{ℕ}

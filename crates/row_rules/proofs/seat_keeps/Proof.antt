@@ -1,4 +1,4 @@
--- `seat::seat_keeps` meets its contract.
+-- `seat_keeps` meets its contract.
 -- Assumes nothing.
 use mathlib.Core.Path.{sym, ap, _∙_}
 use borrow.Author.Tests.{not-true, not-false}

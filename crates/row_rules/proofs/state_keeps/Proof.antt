@@ -1,4 +1,4 @@
--- `seat::state_keeps` meets its contract.
+-- `state_keeps` meets its contract.
 -- Assumes nothing.
 use mathlib.Core.Path.{sym, ap, _∙_}
 use Rattle.table.specs.Block.{farmOf}

@@ -1,4 +1,4 @@
--- `seat::waiting_keeps` meets its contract.
+-- `waiting_keeps` meets its contract.
 -- Assumes nothing.
 use mathlib.Core.Path.{sym, _∙_}
 use borrow.Author.Tests.{lt-leb, le-leb, eq-eqb, ne-eqb, not-true, not-false}

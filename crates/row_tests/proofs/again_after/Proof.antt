@@ -1,4 +1,4 @@
--- `seat::again_after` meets its contract.
+-- `again_after` meets its contract.
 -- Assumes nothing.
 use borrow.Author.Needs.{needs}
 use mathlib.Core.Path.{_≡_, refl, sym, _∙_}

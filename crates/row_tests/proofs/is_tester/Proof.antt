@@ -1,4 +1,4 @@
--- `seat::is_tester` meets its contract.
+-- `is_tester` meets its contract.
 -- Assumes nothing.
 use Rattle.sheet.proofs.LengthLaws.{good-lengths}
 use mathlib.Core.Path.{sym, ap, _∙_}

@@ -1,4 +1,4 @@
--- `seat::mark_keeps` meets its contract.
+-- `mark_keeps` meets its contract.
 -- Assumes nothing.
 use mathlib.Core.Path.{sym, ap, _∙_}
 use mathlib.Core.Bool.{Bool, not}

@@ -1,4 +1,4 @@
--- `seat::times_in` meets its contract.
+-- `times_in` meets its contract.
 -- Assumes nothing.
 use borrow.Author.Needs.{needs}
 use mathlib.Core.Path.{_≡_, sym, _∙_}

@@ -1,4 +1,4 @@
--- `rowbytes::none` meets its contract.
+-- `none` meets its contract.
 -- Assumes nothing.
 use Rattle.octets.proofs.ChoiceLaws.{says-eq}
 use Rattle.octets.proofs.SaysLaws.{says-no, says-of}

@@ -1,4 +1,4 @@
--- `rowbytes::place_bytes` meets its contract.
+-- `place_bytes` meets its contract.
 -- Assumes nothing.
 use mathlib.Core.Path.{sym, ap, _∙_}
 use Rattle.rowbytes.specs.RowBytes.{placeImage}

@@ -1,4 +1,4 @@
--- `rowbytes::place_from` meets its contract.
+-- `place_from` meets its contract.
 -- Assumes nothing.
 use borrow.Author.Tests.{eq-eqb, ne-eqb}
 use Rattle.rowbytes.proofs.place_from.Statement.{statement}

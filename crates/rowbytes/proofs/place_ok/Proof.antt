@@ -1,4 +1,4 @@
--- `rowbytes::place_ok` meets its contract.
+-- `place_ok` meets its contract.
 -- Assumes nothing.
 use mathlib.Core.Path.{refl, sym, subst}
 use Prim.Native.Nat.{ℕ, _<_}

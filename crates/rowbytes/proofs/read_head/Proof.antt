@@ -1,4 +1,4 @@
--- `rowbytes::read_head` meets its contract.
+-- `read_head` meets its contract.
 -- Assumes nothing.
 use Rattle.rowbytes.proofs.RunLaws.{eight}
 use borrow.Author.Needs.{needs}

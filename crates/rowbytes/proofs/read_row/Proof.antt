@@ -1,4 +1,4 @@
--- `rowbytes::read_row` meets its contract.
+-- `read_row` meets its contract.
 -- Assumes nothing.
 use Rattle.rowbytes.specs.RowBytes.{rowFrom}
 use borrow.Author.Needs.{needs}

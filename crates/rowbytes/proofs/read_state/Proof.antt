@@ -1,4 +1,4 @@
--- `rowbytes::read_state` meets its contract.
+-- `read_state` meets its contract.
 -- Assumes nothing.
 use Rattle.rowbytes.specs.RowBytes.{stateIn}
 use borrow.Author.Needs.{needs}

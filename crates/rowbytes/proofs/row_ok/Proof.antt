@@ -1,4 +1,4 @@
--- `rowbytes::row_ok` meets its contract.
+-- `row_ok` meets its contract.
 -- Assumes nothing.
 use mathlib.Core.Path.{_≡_, sym, subst}
 use mathlib.Core.List.{List}

@@ -1,4 +1,4 @@
--- `rowbytes::state_bytes` meets its contract.
+-- `state_bytes` meets its contract.
 -- Assumes nothing.
 use mathlib.Core.Path.{sym, ap, _∙_}
 use Rattle.rowbytes.specs.RowBytes.{stateImage}

@@ -1,4 +1,4 @@
--- `rowbytes::state_from` meets its contract.
+-- `state_from` meets its contract.
 -- Assumes nothing.
 use borrow.Author.Tests.{eq-eqb, ne-eqb}
 use Rattle.rowbytes.proofs.state_from.Statement.{statement}

@@ -1,4 +1,4 @@
--- `rowbytes::state_ok` meets its contract.
+-- `state_ok` meets its contract.
 -- Assumes nothing.
 use mathlib.Core.Path.{sym, subst}
 use Prim.Native.Nat.{ℕ}

@@ -1,4 +1,4 @@
--- `controller::message_at` meets its contract.
+-- `message_at` meets its contract.
 -- Assumes nothing.
 use Prim.Native.Nat.{ℕ}
 use mathlib.Core.Path.{subst}

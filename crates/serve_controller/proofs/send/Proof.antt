@@ -1,4 +1,4 @@
--- `controller::send` meets its contract.
+-- `send` meets its contract.
 -- Assumes nothing.
 use native.Mathlib.Omega.{arith}
 use Rattle.model.specs.Move.{noRow}

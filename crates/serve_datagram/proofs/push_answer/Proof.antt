@@ -1,4 +1,4 @@
--- `datagrams::push_answer` meets its contract.
+-- `push_answer` meets its contract.
 -- Assumes nothing.
 use mathlib.Core.Path.{sym, subst}
 use native.Mathlib.Omega.{arith}

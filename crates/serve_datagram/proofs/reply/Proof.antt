@@ -1,4 +1,4 @@
--- `datagrams::reply` meets its contract.
+-- `reply` meets its contract.
 -- Assumes nothing.
 use mathlib.Core.Path.{_∙_, ap}
 use native.Mathlib.Omega.{arith}

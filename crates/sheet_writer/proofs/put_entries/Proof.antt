@@ -1,4 +1,4 @@
--- `put_entries` meets its contract: a turn of the loop adds an offset and an entry (`SheetLaws.turn`).
+-- `put_entries` meets its contract: a turn of the loop adds an offset and an entry (`turn` of outsheet's SheetLaws).
 -- Assumes nothing.
 use mathlib.Core.Path.{_≡_, refl, sym, ap, _∙_}
 use mathlib.Core.List.{List}

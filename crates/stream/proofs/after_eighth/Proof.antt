@@ -1,4 +1,4 @@
--- `stream::after_eighth` meets its contract: a header that passes goes on with its payload, a wrong one ends the call.
+-- `after_eighth` meets its contract: a header that passes goes on with its payload, a wrong one ends the call.
 -- Assumes nothing.
 use Prim.Native.Nat.{ℕ, _-_}
 use mathlib.Core.Path.{_≡_, sym, ap, _∙_}

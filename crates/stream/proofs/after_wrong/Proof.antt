@@ -1,4 +1,4 @@
--- `stream::after_wrong` meets its contract, whatever the room holds: the two tests are those of the definition.
+-- `after_wrong` meets its contract, whatever the room holds: the two tests are those of the definition.
 -- Assumes nothing.
 use mathlib.Core.Path.{_≡_, sym, ap, _∙_}
 use native.Mathlib.Omega.{arith}

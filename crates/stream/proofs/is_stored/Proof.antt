@@ -1,4 +1,4 @@
--- `stream::is_stored` meets its contract: the tests that led to each return say which type it is.
+-- `is_stored` meets its contract: the tests that led to each return say which type it is.
 -- Assumes nothing.
 use borrow.Author.Tests.{ne-eqb, eq-eqb}
 use Rattle.stream.proofs.is_stored.Statement.{statement}

@@ -1,4 +1,4 @@
--- `stream::rested` meets its contract.
+-- `rested` meets its contract.
 -- Assumes nothing.
 use mathlib.Core.Path.{refl}
 use Rattle.model.specs.Row.{noHead}

@@ -1,4 +1,4 @@
--- `stream::store` meets its contract: the bytes are put where the type is one of the three, else the room stays.
+-- `store` meets its contract: the bytes are put where the type is one of the three, else the room stays.
 -- Assumes nothing.
 use mathlib.Core.Path.{sym, _∙_}
 use borrow.Author.Needs.{needs}

@@ -1,4 +1,4 @@
--- `stream::take` meets its contract: the place says which part of a message goes on.
+-- `take` meets its contract: the place says which part of a message goes on.
 -- Assumes nothing.
 use mathlib.Core.Path.{sym, ap, _∙_}
 use denote.Ref.{now}

@@ -1,4 +1,4 @@
--- `stream::take_header` meets its contract: a run of header bytes at once.
+-- `take_header` meets its contract: a run of header bytes at once.
 -- Assumes nothing.
 use Prim.Native.Nat.{ℕ, _+_}
 use mathlib.Core.Path.{_≡_, sym, ap, _∙_}

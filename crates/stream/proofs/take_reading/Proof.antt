@@ -1,4 +1,4 @@
--- `stream::take_reading` meets its contract: a run of payload bytes at once.
+-- `take_reading` meets its contract: a run of payload bytes at once.
 -- Assumes nothing.
 use Prim.Native.Nat.{ℕ, _+_, _≤_, _<_}
 use mathlib.Core.Path.{sym, ap, _∙_}

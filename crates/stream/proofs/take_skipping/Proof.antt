@@ -1,4 +1,4 @@
--- `stream::take_skipping` meets its contract, whatever the room holds: a run of payload bytes at once, none of them stored.
+-- `take_skipping` meets its contract, whatever the room holds: a run of payload bytes at once, none of them stored.
 -- Assumes nothing.
 use Prim.Native.Nat.{_<_}
 use mathlib.Core.Path.{sym, ap, _∙_}

@@ -1,4 +1,4 @@
--- `line::clear_line` meets its contract.
+-- `clear_line` meets its contract.
 -- Assumes nothing.
 use mathlib.Core.Path.{refl}
 use mathlib.Core.List.{[]}

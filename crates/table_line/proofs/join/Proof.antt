@@ -1,4 +1,4 @@
--- `line::join` meets its contract.
+-- `join` meets its contract.
 -- Assumes nothing.
 use mathlib.Core.Path.{ap, _∙_}
 use mathlib.Core.List.{List, _∷_}

@@ -1,4 +1,4 @@
--- `line::leave` meets its contract.
+-- `leave` meets its contract.
 -- Assumes nothing.
 use mathlib.Core.Path.{_≡_, sym, ap, _∙_}
 use mathlib.Core.List.{List}

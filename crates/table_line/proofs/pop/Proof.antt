@@ -1,4 +1,4 @@
--- `line::pop` meets its contract.
+-- `pop` meets its contract.
 -- Assumes nothing.
 use native.Mathlib.Omega.{arith}
 use Rattle.table_line.proofs.LineStores.{few, popped-stored}

@@ -1,4 +1,4 @@
--- `line::seat_at` meets its contract.
+-- `seat_at` meets its contract.
 -- Assumes nothing.
 use mathlib.Core.Path.{_∙_}
 use native.Mathlib.Omega.{arith}

@@ -1,4 +1,4 @@
--- `line::seats_of` meets its contract.
+-- `seats_of` meets its contract.
 -- Assumes nothing.
 use mathlib.Core.Path.{_∙_}
 use mathlib.Core.List.{List}

@@ -1,4 +1,4 @@
--- `line::store` meets its contract.
+-- `store` meets its contract.
 -- Assumes nothing.
 use mathlib.Core.Path.{_≡_, ap, _∙_}
 use mathlib.Core.List.{List}

@@ -1,4 +1,4 @@
--- `line::waiting` meets its contract.
+-- `waiting` meets its contract.
 -- Assumes nothing.
 use mathlib.Core.Path.{_∙_}
 use native.Mathlib.Omega.{arith}

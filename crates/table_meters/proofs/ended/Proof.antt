@@ -1,4 +1,4 @@
--- `meters::ended` meets its contract.
+-- `ended` meets its contract.
 -- Assumes nothing.
 use borrow.Author.Needs.{needs}
 use Rattle.table_meters.proofs.ended.Statement.{statement}

@@ -1,4 +1,4 @@
--- `meters::lose` meets its contract.
+-- `lose` meets its contract.
 -- Assumes nothing.
 use borrow.Author.Needs.{needs}
 use Rattle.table_meters.proofs.lose.Statement.{statement}

@@ -1,4 +1,4 @@
--- `meters::meters_at` meets its contract.
+-- `meters_at` meets its contract.
 -- Assumes nothing.
 use Rattle.table.specs.Block.{farmOf}
 use borrow.Author.Needs.{needs}

@@ -1,4 +1,4 @@
--- `meters::put_meters` meets its contract.
+-- `put_meters` meets its contract.
 -- Assumes nothing.
 use mathlib.Core.Path.{_≡_, refl}
 use mathlib.Core.List.{List, _++_}

@@ -1,4 +1,4 @@
--- `meters::read_meters` meets its contract.
+-- `read_meters` meets its contract.
 -- Assumes nothing.
 use Rattle.table.specs.Block.{metersFrom}
 use borrow.Author.Needs.{needs}

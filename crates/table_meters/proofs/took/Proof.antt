@@ -1,4 +1,4 @@
--- `meters::took` meets its contract.
+-- `took` meets its contract.
 -- Assumes nothing.
 use borrow.Author.Needs.{needs}
 use Rattle.table_meters.proofs.took.Statement.{statement}

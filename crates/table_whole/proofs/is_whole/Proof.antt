@@ -1,4 +1,4 @@
--- `whole::is_whole` meets its contract.
+-- `is_whole` meets its contract.
 -- Assumes nothing.
 use mathlib.Core.List.{List}
 use Prim.Native.Nat.{ℕ, _<_}

@@ -1,4 +1,4 @@
--- `whole::line_ok` meets its contract.
+-- `line_ok` meets its contract.
 -- Assumes nothing.
 use mathlib.Core.Path.{_≡_}
 use Prim.Native.Nat.{ℕ, _+_, _-_, _≤_, _<_}

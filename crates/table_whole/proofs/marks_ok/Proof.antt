@@ -1,4 +1,4 @@
--- `whole::marks_ok` meets its contract.
+-- `marks_ok` meets its contract.
 -- Assumes nothing.
 use Prim.Native.Nat.{ℕ, _+_, _-_, _≤_, _<_}
 use native.Mathlib.Omega.{arith}

@@ -1,4 +1,4 @@
--- `whole::rows_ok` meets its contract.
+-- `rows_ok` meets its contract.
 -- Assumes nothing.
 use mathlib.Core.Path.{_≡_, refl, sym, subst}
 use mathlib.Core.List.{List}

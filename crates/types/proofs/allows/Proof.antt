@@ -1,4 +1,4 @@
--- `wire::types::allows` meets its contract: at each return the tests that led there decide.
+-- `allows` meets its contract: at each return the tests that led there decide.
 -- Assumes nothing.
 use mathlib.Core.Path.{sym, _∙_}
 use borrow.Author.Tests.{not-true, not-false, le-leb, lt-leb}

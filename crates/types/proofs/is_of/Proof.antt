@@ -1,4 +1,4 @@
--- `wire::types::is_of` meets its contract.
+-- `is_of` meets its contract.
 -- Assumes nothing.
 use borrow.Author.Tests.{ne-eqb, eq-eqb}
 use Rattle.types.proofs.is_of.Statement.{statement}

@@ -1,4 +1,4 @@
--- `wire::types::known` meets its contract: it is the one walk of the table with one of the two questions.
+-- `known` meets its contract: it is the one walk of the table with one of the two questions.
 -- Assumes nothing.
 use Rattle.types.specs.Types.{knownOn}
 use borrow.Author.Needs.{needs}

@@ -1,4 +1,4 @@
--- `wire::types::length_fits` meets its contract: it is the one walk of the table with one of the two questions.
+-- `length_fits` meets its contract: it is the one walk of the table with one of the two questions.
 -- Assumes nothing.
 use Rattle.types.specs.Types.{lengthFits}
 use borrow.Author.Needs.{needs}

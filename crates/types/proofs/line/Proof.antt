@@ -1,4 +1,4 @@
--- `wire::types::line` meets its contract: the constant table and the definition's list are the same by computation.
+-- `line` meets its contract: the constant table and the definition's list are the same by computation.
 -- Assumes nothing.
 use mathlib.Core.Path.{refl}
 use Rattle.types.specs.Types.{types}

@@ -1,4 +1,4 @@
--- `wire::types::meets` meets its contract: each arm asks its own question.
+-- `meets` meets its contract: each arm asks its own question.
 -- Assumes nothing.
 use mathlib.Core.Path.{_∙_}
 use borrow.Author.Needs.{needs}

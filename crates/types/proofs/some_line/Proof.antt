@@ -1,4 +1,4 @@
--- `wire::types::some_line` meets its contract: what is left of the table decides.
+-- `some_line` meets its contract: what is left of the table decides.
 -- Assumes nothing.
 use mathlib.Core.Path.{_≡_, refl, sym, ap, _∙_}
 use mathlib.Core.Bool.{Bool, true, false}

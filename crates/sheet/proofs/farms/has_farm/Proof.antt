@@ -1,4 +1,4 @@
--- `has_farm` meets its contract.
+-- `farms::has_farm` meets its contract.
 -- Assumes nothing.
 use mathlib.Core.Path.{ap}
 use lib.Dec.{ltb}

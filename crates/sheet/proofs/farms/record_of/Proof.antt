@@ -1,4 +1,4 @@
--- `record_of` meets its contract: from a farm's place to the next one's is a farm's size.
+-- `farms::record_of` meets its contract: from a farm's place to the next one's is a farm's size.
 -- Assumes nothing.
 use mathlib.Core.Path.{_≡_, ap}
 use Prim.Native.Nat.{ℕ, _+_, _-_}

@@ -1,4 +1,4 @@
--- `find_target` meets its contract: the place and the count that it hands on are the section's own.
+-- `find::find_target` meets its contract: the place and the count that it hands on are the section's own.
 -- Assumes nothing.
 use mathlib.Core.Path.{_∙_}
 use denote.Ref.{now}

@@ -1,4 +1,4 @@
--- `known_at` meets its contract: what is read where it stands is what the four bytes say.
+-- `find::known_at` meets its contract: what is read where it stands is what the four bytes say.
 -- Assumes nothing.
 use mathlib.Core.Path.{sym}
 use denote.Ref.{now}

@@ -1,4 +1,4 @@
--- `lookup_in` meets its contract. The walk: the lookup in all n is the lookup in those that are left.
+-- `find::lookup_in` meets its contract. The walk: the lookup in all n is the lookup in those that are left.
 -- Assumes nothing.
 use mathlib.Core.Path.{_≡_, sym, ap, _∙_, refl}
 use Prim.Native.Nat.{_+_, _*_, _≤_}

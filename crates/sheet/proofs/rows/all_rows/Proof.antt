@@ -1,4 +1,4 @@
--- `all_rows` meets its contract: a count of two bytes is below 65,536.
+-- `rows::all_rows` meets its contract: a count of two bytes is below 65,536.
 -- Assumes nothing.
 use mathlib.Core.Path.{_∙_, ap}
 use native.Mathlib.Omega.{arith}

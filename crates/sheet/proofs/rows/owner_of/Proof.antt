@@ -1,4 +1,4 @@
--- `owner_of` meets its contract. The walk: the owner among all farms is the owner among those left, the row counted from the first row of the next. A farm
+-- `rows::owner_of` meets its contract. The walk: the owner among all farms is the owner among those left, the row counted from the first row of the next. A farm
 -- has a row at least, so a farm's number is no higher than the row's.
 -- Assumes nothing.
 use mathlib.Core.Path.{_≡_, sym, ap, _∙_}

@@ -1,4 +1,4 @@
--- `rows_before` meets its contract. The walk: the sum is the first row of the farm that comes next, and no farm so far added more than 256.
+-- `rows::rows_before` meets its contract. The walk: the sum is the first row of the farm that comes next, and no farm so far added more than 256.
 -- Assumes nothing.
 use mathlib.Core.Path.{_≡_, ap, _∙_, refl}
 use Prim.Native.Nat.{_+_, _*_, _-_, _≤_}

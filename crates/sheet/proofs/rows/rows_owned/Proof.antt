@@ -1,4 +1,4 @@
--- `rows_owned` meets its contract: a byte and one more fit.
+-- `rows::rows_owned` meets its contract: a byte and one more fit.
 -- Assumes nothing.
 use Prim.Native.Nat.{_+_}
 use Rattle.sheet.specs.Sheet.{farmAt}

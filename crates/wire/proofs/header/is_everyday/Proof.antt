@@ -1,4 +1,4 @@
--- `wire::header::is_everyday` meets its contract.
+-- `header::is_everyday` meets its contract.
 -- Assumes nothing.
 use borrow.Author.Tests.{ne-eqb, eq-eqb, lt-leb, le-leb}
 use Rattle.wire.proofs.header.is_everyday.Statement.{statement}

@@ -1,4 +1,4 @@
--- `wire::header::judge` meets its contract: at each return the tests that led there say which rule of `verdictOf` decides.
+-- `header::judge` meets its contract: at each return the tests that led there say which rule of `verdictOf` decides.
 -- Assumes nothing.
 use mathlib.Core.Path.{_≡_, sym, _∙_}
 use mathlib.Core.Bool.{true}

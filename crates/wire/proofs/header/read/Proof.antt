@@ -1,4 +1,4 @@
--- `wire::header::read` meets its contract: each field is what was read.
+-- `header::read` meets its contract: each field is what was read.
 -- Assumes nothing.
 use borrow.Author.Needs.{needs}
 use Rattle.wire.proofs.header.read.Statement.{statement}

@@ -1,4 +1,4 @@
--- `play` meets its contract.
+-- `dayfile::play` meets its contract.
 -- Assumes nothing.
 use mathlib.Core.Path.{_≡_, sym, _∙_}
 use Prim.Native.Nat.{_-_, _≤_}
@@ -7,8 +7,8 @@ use native.Mathlib.Omega.{arith}
 use Rattle.say.specs.Spaces.{spaceSize, textSize}
 use Rattle.rig.specs.Kept.{Kept}
 use borrow.Author.Needs.{needs}
-use Rattle.dayfile.proofs.play.Statement.{statement}
-use Rattle.dayfile.proofs.play.Tie as tie
+use Rattle.replay.proofs.dayfile.play.Statement.{statement}
+use Rattle.replay.proofs.dayfile.play.Tie as tie
 
 abbrev Inv-loop : tie.InvT-loop
 Inv-loop fd path in-words buf₀ sheet₀ out₀ m₀ text₀ t₀ r₀ turns₀ buf sheet out m text t r turns =

@@ -2,7 +2,7 @@
 ghost use mathlib.Core.Path.{_≡_};
 ghost use Prim.Native.Nat.{_≤_};
 ghost use lib.ListN.{length};
-ghost use Rattle.dayfile.specs.Reads.{Inside};
+ghost use Rattle.replay.specs.Reads.{Inside};
 ghost use Rattle.rig.specs.Kept.{Kept};
 ghost use Rattle.say.specs.Spaces.{spaceSize, textSize};
 use day::places;

@@ -1,4 +1,4 @@
--- `walk_all` meets its contract.
+-- `dayfile::walk_all` meets its contract.
 -- Assumes nothing.
 use mathlib.Core.Path.{_≡_, refl, _∙_}
 use Prim.Native.Nat.{_-_, _≤_}
@@ -6,8 +6,8 @@ use lib.ListN.{length}
 use native.Mathlib.Omega.{arith}
 use Rattle.rig.specs.Kept.{Kept}
 use borrow.Author.Needs.{needs}
-use Rattle.dayfile.proofs.walk_all.Statement.{statement}
-use Rattle.dayfile.proofs.walk_all.Tie as tie
+use Rattle.replay.proofs.dayfile.walk_all.Statement.{statement}
+use Rattle.replay.proofs.dayfile.walk_all.Tie as tie
 
 abbrev Inv-loop : tie.InvT-loop
 Inv-loop s sheet₀ t₀ out₀ m₀ text₀ w₀ turns₀ sheet t out m text w turns =

@@ -1,11 +1,11 @@
--- `carry` meets its contract.
+-- `dayfile::carry` meets its contract.
 -- Assumes nothing.
 use mathlib.Core.Path.{sym}
 use lib.Seq.{length-take-le}
 use native.Mathlib.Omega.{arith}
 use borrow.Author.Needs.{needs}
-use Rattle.dayfile.proofs.carry.Statement.{statement}
-use Rattle.dayfile.proofs.carry.Tie as tie
+use Rattle.replay.proofs.dayfile.carry.Statement.{statement}
+use Rattle.replay.proofs.dayfile.carry.Tie as tie
 
 slice-reshare-prefix-walk-all : tie.Need-slice-reshare-prefix-walk-all
 slice-reshare-prefix-walk-all c = search needs

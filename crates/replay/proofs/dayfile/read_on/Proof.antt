@@ -1,9 +1,9 @@
--- `read_on` meets its contract.
+-- `dayfile::read_on` meets its contract.
 -- Assumes nothing.
 use native.Mathlib.Omega.{arith}
 use borrow.Author.Needs.{needs}
-use Rattle.dayfile.proofs.read_on.Statement.{statement}
-use Rattle.dayfile.proofs.read_on.Tie as tie
+use Rattle.replay.proofs.dayfile.read_on.Statement.{statement}
+use Rattle.replay.proofs.dayfile.read_on.Tie as tie
 
 refill-requires : tie.Need-refill-requires
 refill-requires c κs = search needs

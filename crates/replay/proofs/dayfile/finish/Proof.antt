@@ -1,11 +1,11 @@
--- `finish` meets its contract.
+-- `dayfile::finish` meets its contract.
 -- Assumes nothing.
 use mathlib.Core.Path.{sym}
 use lib.Seq.{length-take-le}
 use native.Mathlib.Omega.{arith}
 use borrow.Author.Needs.{needs}
-use Rattle.dayfile.proofs.finish.Statement.{statement}
-use Rattle.dayfile.proofs.finish.Tie as tie
+use Rattle.replay.proofs.dayfile.finish.Statement.{statement}
+use Rattle.replay.proofs.dayfile.finish.Tie as tie
 
 slice-aggregate-say-farms : tie.Need-slice-aggregate-say-farms
 slice-aggregate-say-farms c = sym (length-take-le (c .before .before .before .before .before .args .run .lent .sheet) (c .before .before .before .before .before .args .sheet .now) (omega (arith, c .before .before .before .before .before .pre .0 .sheet, c .before .before .before .before .before .pre .1)))

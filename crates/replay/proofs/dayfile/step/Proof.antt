@@ -1,11 +1,11 @@
--- `step` meets its contract.
+-- `dayfile::step` meets its contract.
 -- Assumes nothing.
 use Prim.Native.Nat.{_-_}
 use Rattle.octets.proofs.PartsLaws.{length-part}
 use native.Mathlib.Omega.{arith}
 use borrow.Author.Needs.{needs}
-use Rattle.dayfile.proofs.step.Statement.{statement}
-use Rattle.dayfile.proofs.step.Tie as tie
+use Rattle.replay.proofs.dayfile.step.Statement.{statement}
+use Rattle.replay.proofs.dayfile.step.Tie as tie
 
 next-at-requires : tie.Need-next-at-requires
 next-at-requires c κs = search needs
