@@ -1,0 +1,68 @@
+-- `same` meets its contract: what is left of the two lists decides.
+-- Assumes nothing.
+use mathlib.Core.Path.{◌≡◌, refl, sym, ◌∙◌}
+use Prim.Native.Nat.{◌-◌, ◌≤◌}
+use native.Mathlib.Omega.{arith}
+use lib.ListN.{length, drop}
+use Rattle.octets.specs.Search.{same_list}
+use Rattle.octets.proofs.SearchLaws.{same_next, same_differ, same_end, same_short}
+use Rattle.octets.proofs.same.Statement.{statement}
+use Rattle.octets.proofs.same.Tie as tie
+
+abbrev invariant-loop : tie.invariant-loop
+invariant-loop a b i₀ i = (i ≤ length a) × (length a ≡ length b) × (same_list a b ≡ same_list (drop i a) (drop i b))
+
+abbrev decreases-loop : tie.decreases-loop
+decreases-loop a b i₀ i = length a - i
+
+returns : tie.Need-returns invariant-loop decreases-loop
+returns c = sym (same_short c.before.args.a.now c.before.args.b.now c.if1.true)
+
+loop-holds : tie.Need-loop-init invariant-loop decreases-loop
+loop-holds c = (omega arith, c.if1.false, refl)
+
+shared-slice-read-if2 : tie.Need-shared-slice-read-if2 invariant-loop decreases-loop
+shared-slice-read-if2 c = omega arith
+
+shared-slice-read-if2-2 : tie.Need-shared-slice-read-if2-2 invariant-loop decreases-loop
+shared-slice-read-if2-2 c = omega arith
+
+returns-2 : tie.Need-returns-2 invariant-loop decreases-loop
+returns-2 c =
+    let l = c.before.before.before.before.loop in
+    let a = c.before.before.before.before.before.before.args in
+    sym (l.invariant.2 ∙ same_differ a.a.now a.b.now l.i (omega arith) l.invariant.1 c.if2.true)
+
+add-i : tie.Need-overflow_add-i invariant-loop decreases-loop
+add-i c = omega arith
+
+loop-less : tie.Need-loop-smaller invariant-loop decreases-loop
+loop-less c = omega arith
+
+loop-again : tie.Need-loop-preserved invariant-loop decreases-loop
+loop-again c =
+    let l = c.before.before.before.before.loop in
+    let a = c.before.before.before.before.before.before.args in
+    (omega arith, l.invariant.1, l.invariant.2 ∙ same_next a.a.now a.b.now l.i (omega arith) l.invariant.1 c.if2.false)
+
+returns-3 : tie.Need-returns-3 invariant-loop decreases-loop
+returns-3 c =
+    let l = c.before.loop in
+    let a = c.before.before.before.args in
+    sym (l.invariant.2 ∙ same_end a.a.now a.b.now l.i c.loop-test.false (omega arith))
+
+pub same_spec : {M : Type 1} → statement M
+same_spec =
+    tie.close
+    (tie.spec
+    invariant-loop
+    decreases-loop
+    returns
+    loop-holds
+    shared-slice-read-if2
+    shared-slice-read-if2-2
+    returns-2
+    add-i
+    loop-less
+    loop-again
+    returns-3)
