@@ -1,4 +1,6 @@
 // Alive checks: "Starting one sets the clock to 0, clears the marks and sends 0007 (empty) to the asked rows, lowest first."
+#![tactic(auto)]
+
 ghost use Rattle.std.specs.Prelude.{◌<◌, length, drop};
 ghost use Rattle.model.specs.Farm.{each_seat};
 ghost use Rattle.model.specs.Line.{asked_if, asking, cleared, started, advanced};

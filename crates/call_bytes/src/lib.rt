@@ -1,4 +1,6 @@
 // "bytes from a row".
+#![tactic(auto)]
+
 ghost use Rattle.model.specs.Table.{bytes_from};
 ghost use Rattle.lent.specs.Served.{memory, CallServed};
 

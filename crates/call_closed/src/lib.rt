@@ -1,4 +1,6 @@
 // Rows that close from outside: "peer closed", "link of a farm lost".
+#![tactic(auto)]
+
 ghost use Rattle.model.specs.Table.{peer_closed_on, link_lost_of};
 ghost use Rattle.lent.specs.Served.{memory, CallServed};
 

@@ -1,4 +1,6 @@
 // "connect": "Connect opens the lowest free row of the farm, so freed rows are used again."
+#![tactic(auto)]
+
 ghost use Rattle.model.specs.Table.{connect_to};
 ghost use Rattle.lent.specs.Served.{memory, CallServed};
 

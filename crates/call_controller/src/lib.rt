@@ -1,4 +1,6 @@
 // "message from a controller". It changes nothing of the table.
+#![tactic(auto)]
+
 ghost use Rattle.model.specs.Table.{message_from};
 ghost use Rattle.lent.specs.Served.{memory, CallServed};
 

@@ -1,4 +1,6 @@
 // "datagram". It changes nothing of the table.
+#![tactic(auto)]
+
 ghost use Rattle.model.specs.Table.{datagram_to};
 ghost use Rattle.lent.specs.Served.{memory, CallServed};
 

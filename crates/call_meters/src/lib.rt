@@ -1,5 +1,7 @@
 // The query of a farm's meters: "taken, finished, lost". It changes nothing and refuses nothing; a slot that the table does not have has
 // no meter.
+#![tactic(auto)]
+
 ghost use Rattle.std.specs.Prelude.{◌≡◌, List, ℕ, ◌<◌, length};
 ghost use Rattle.sheet.specs.Sheet.{most_farms};
 ghost use Rattle.model.specs.Table.{slot};

@@ -1,4 +1,6 @@
 // "start a fresh table": "A new table holds all rows free and all meters 0."
+#![tactic(auto)]
+
 ghost use Rattle.std.specs.Prelude.{◌≡◌, length, replicate};
 ghost use Rattle.lent.specs.Served.{memory, StartServed};
 

@@ -1,4 +1,6 @@
 // "tick (10 ms)": "A tick serves the farms in order".
+#![tactic(auto)]
+
 ghost use Rattle.model.specs.Table.{tick};
 ghost use Rattle.lent.specs.Served.{memory, CallServed};
 

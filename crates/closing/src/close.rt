@@ -19,7 +19,7 @@ use table::SEATS;
 const HEAD: u32 = 8;
 
 // Which rows are to close: those asked that have not answered, those at their limit, all that are open.
-#[derive(Drop)]
+#[derive(Clone, Copy)]
 pub enum Closing {
     Silent(Check),
     Due,

@@ -1,4 +1,6 @@
 // What a datagram gets.
+#![tactic(auto)]
+
 ghost use Rattle.std.specs.Prelude.{◌≡◌, length};
 ghost use Rattle.datagram.specs.Datagram.{if_named, answer_by, answer_to};
 ghost use Rattle.octets.specs.Search.{same_list};

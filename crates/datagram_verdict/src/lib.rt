@@ -1,4 +1,6 @@
 // The verdict on a datagram, in an order of its own.
+#![tactic(auto)]
+
 ghost use Rattle.std.specs.Prelude.{◌≡◌};
 ghost use Rattle.datagram.specs.Datagram.{right_for, length_right, head_verdict, datagram_verdict};
 

@@ -6,7 +6,7 @@ ghost use Rattle.day.specs.Next.{next_at, Lies};
 use kinds::{FarmNo, RowNo};
 
 // A call with its fields. The bytes that some end in are not held here: they are the record's last, after its fixed fields.
-#[derive(Drop)]
+#[derive(Clone, Copy)]
 pub enum Call {
     Start,
     Connect(FarmNo),
@@ -20,7 +20,7 @@ pub enum Call {
 }
 
 // A record: a call as the host made it, or what is lent to the calls that follow.
-#[derive(Drop)]
+#[derive(Clone, Copy)]
 pub enum Record {
     Made(Call),
     Sheet,
@@ -31,14 +31,14 @@ pub enum Record {
 }
 
 // "an unknown kind or a wrong number of fields" is bad.
-#[derive(Drop)]
+#[derive(Clone, Copy)]
 pub enum Read {
     Is(Record),
     Bad,
 }
 
 // What stands at a place of the bytes in hand.
-#[derive(Drop)]
+#[derive(Clone, Copy)]
 pub enum Next {
     // The bytes that the record ends in start at rest, and the next record at next.
     Whole {

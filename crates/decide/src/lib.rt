@@ -1,4 +1,6 @@
 // "Activation (001, 12.5 and 12.6)": what a request gets. Nothing here changes anything.
+#![tactic(auto)]
+
 ghost use Rattle.std.specs.Prelude.{◌≡◌, ◌<◌, length};
 ghost use Rattle.octets.specs.Search.{first_at, count_if};
 ghost use Rattle.kinds.specs.declared.Decision.TheVariants.{Ask};

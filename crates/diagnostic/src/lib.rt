@@ -1,4 +1,6 @@
 // "Diagnostic messages (001, 9.5)": 8001 is refused, or acknowledged and handed on.
+#![tactic(auto)]
+
 ghost use Rattle.std.specs.Prelude.{◌≡◌, ◌<◌};
 ghost use Rattle.sheet.specs.Rules.{GoodSheet};
 ghost use Rattle.model.specs.FarmSheet.{farm_sheet};

@@ -1,5 +1,7 @@
 // The calls for C, as a static library: include/dokrawin.h declares them. A slice is a pointer and its length, the table is a pointer to
 // 852 bytes, an answer is a struct of four numbers. Each function is the gateway's call of that name and ensures the same.
+#![tactic(auto)]
+
 ghost use Rattle.std.specs.Prelude.{ℕ, ◌≡◌, List};
 ghost use Rattle.model.specs.Table.{slot, connect_to, bytes_from, peer_closed_on, link_lost_of, tick, datagram_to, message_from};
 ghost use Rattle.lent.specs.Lent.{lent_table};
@@ -128,7 +130,7 @@ pub extern "C" fn dokrawin_controller_message(
 
 // The meters of a farm, for a support person: taken, finished, lost.
 #[repr(C)]
-#[derive(Drop)]
+#[derive(Clone, Copy)]
 pub struct FarmMeters {
     pub taken: u32,
     pub finished: u32,

@@ -9,7 +9,7 @@ use words::fill::{Arg, Sentence, with};
 use words::{book, fill, put};
 
 // Where an entry lies: the place at which it begins, and how many bytes it has after its row, its kind and their number.
-#[derive(Drop)]
+#[derive(Clone, Copy)]
 pub enum Spot {
     At { from: usize, long: usize },
     // Not within the sheet.

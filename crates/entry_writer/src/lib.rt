@@ -1,4 +1,6 @@
 // One entry of the output sheet, written from an item of the plan and at most one long payload. Each byte is written once.
+#![tactic(auto)]
+
 ghost use Rattle.std.specs.Prelude.{◌≡◌, ◌+◌, ◌≤◌, ◌<◌, length, ◌∷◌};
 ghost use Rattle.octets.specs.Put.{put_at};
 ghost use Rattle.octets.specs.Numbers.{be16};

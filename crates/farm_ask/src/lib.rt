@@ -1,4 +1,6 @@
 // What the calls ask of a farm's rows. Nothing here changes anything.
+#![tactic(auto)]
+
 ghost use Rattle.std.specs.Prelude.{◌≡◌, length};
 ghost use Rattle.model.specs.Row.{row_at, is_free, is_free_state, is_open, is_waiting, is_waiting_state};
 ghost use Rattle.model.specs.Move.{open_rows};

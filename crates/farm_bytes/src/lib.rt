@@ -1,4 +1,6 @@
 // A bytes call of one farm: what is taken of the input, what ended it, and the line settled.
+#![tactic(auto)]
+
 ghost use Rattle.std.specs.Prelude.{◌≡◌, false, List, ℕ, ◌<◌, length};
 ghost use Rattle.wire.specs.Header.{most_payload};
 ghost use Rattle.model.specs.FarmSheet.{farm_sheet};
@@ -18,7 +20,7 @@ use messages::message;
 use stream::Took;
 
 // How many bytes were taken, and how many bytes of the row's room are the payload of the message that is finished.
-#[derive(Drop)]
+#[derive(Clone, Copy)]
 pub struct Heard {
     pub count: usize,
     pub long: usize,

@@ -1,4 +1,6 @@
 // "A controller message goes out as 8001: controller, tester, user data." The user data are lent beside the plan.
+#![tactic(auto)]
+
 ghost use Rattle.std.specs.Prelude.{◌≡◌, length};
 ghost use Rattle.sheet.specs.Rules.{GoodSheet};
 ghost use Rattle.model.specs.FarmSheet.{farm_sheet};

@@ -1,4 +1,6 @@
 // What a bytes call leaves of a row's state and of the farm's meters, and how much of the row's room is handed on.
+#![tactic(auto)]
+
 ghost use Rattle.std.specs.Prelude.{◌≡◌, []};
 ghost use Rattle.model.specs.Row.{no_head, heard_state};
 ghost use Rattle.model.specs.Stream.{stream_of, over_at, ended_by};

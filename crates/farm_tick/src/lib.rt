@@ -1,4 +1,6 @@
 // "a running check clock goes up, ages and idle counts go up, rows at their limit close in row order, the line is settled"
+#![tactic(auto)]
+
 ghost use Rattle.std.specs.Prelude.{◌<◌};
 ghost use Rattle.model.specs.Row.{row_at, older};
 ghost use Rattle.model.specs.Farm.{with_row};

@@ -1,4 +1,6 @@
 // What a call answers.
+#![tactic(auto)]
+
 ghost use Rattle.std.specs.Prelude.{◌≡◌, [], ◌≤◌, length};
 ghost use Rattle.outsheet.specs.Sheet.{sheet_of};
 ghost use Rattle.outsheet.specs.Replies.{entries_of};

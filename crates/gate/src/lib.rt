@@ -1,4 +1,6 @@
 // Refusals 1 to 4, "in this order; the first that applies is given".
+#![tactic(auto)]
+
 ghost use Rattle.std.specs.Prelude.{◌≡◌, length};
 ghost use Rattle.table.specs.Layout.{table_size};
 ghost use Rattle.lent.specs.Gate.{start_number, gate_number};

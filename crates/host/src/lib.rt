@@ -1,1 +1,3 @@
 // Laws alone: the promises, of the calls that run.
+#![tactic(auto)]
+

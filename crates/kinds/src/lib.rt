@@ -1,17 +1,19 @@
 // The types by value that the core speaks of. Nothing here knows how any of them stands in bytes.
+#![tactic(auto)]
+
 ghost use Rattle.std.specs.Prelude.{◌≡◌};
 ghost use Rattle.kinds.specs.Clock.{clock_of, stepped};
 
 // A row over the whole sheet, 0 to 15 (255 where an entry belongs to none), and a farm, 0 to 3: two kinds, so that a row can't
 // index the farms.
-#[derive(Drop)]
+#[derive(Clone, Copy)]
 pub struct RowNo(pub u8);
 
-#[derive(Drop)]
+#[derive(Clone, Copy)]
 pub struct FarmNo(pub u8);
 
 // What the rules of a farm's line look at of its sheet: its first row over the whole sheet, its quota, its entity address.
-#[derive(Drop)]
+#[derive(Clone, Copy)]
 pub struct Site {
     pub first: u8,
     pub quota: u8,
@@ -19,7 +21,7 @@ pub struct Site {
 }
 
 // Ticks of 10 ms.
-#[derive(Drop)]
+#[derive(Clone, Copy)]
 pub struct Clock {
     pub ticks: u16,
 }
@@ -51,14 +53,14 @@ impl Clock {
 }
 
 // A routing activation request: "all after the type are ignored", so nothing else of it is kept.
-#[derive(Drop)]
+#[derive(Clone, Copy)]
 pub struct Request {
     pub address: u16,
     pub kind: u8,
 }
 
 // "A row is free, fresh with its age, waiting with its request, or active with its tester's address and idle count."
-#[derive(Drop)]
+#[derive(Clone, Copy)]
 pub enum RowState {
     Free,
     Fresh(Clock),
@@ -67,7 +69,7 @@ pub enum RowState {
 }
 
 // "its place in the byte stream": so many header bytes in hand, or so many payload bytes read, or skipped.
-#[derive(Drop)]
+#[derive(Clone, Copy)]
 pub enum Place {
     Header(u8),
     Reading(u32),
@@ -75,7 +77,7 @@ pub enum Place {
 }
 
 // A row is one TCP connection. An enum holds no array, so the header's bytes stand beside its place; those not in hand are 0.
-#[derive(Drop)]
+#[derive(Clone, Copy)]
 pub struct Row {
     pub state: RowState,
     pub place: Place,
@@ -83,7 +85,7 @@ pub struct Row {
 }
 
 // "three meters", each wrapping on purpose.
-#[derive(Drop)]
+#[derive(Clone, Copy)]
 pub struct Meters {
     pub taken: u32,
     pub finished: u32,
@@ -91,21 +93,21 @@ pub struct Meters {
 }
 
 // Whom an alive check asks: the row with this seat, or all active rows of the farm.
-#[derive(Drop)]
+#[derive(Clone, Copy)]
 pub enum Check {
     One(u8),
     All,
 }
 
 // What the rules say of a request: a code at once, or an alive check first.
-#[derive(Drop)]
+#[derive(Clone, Copy)]
 pub enum Decision {
     Now(u8),
     Ask(Check),
 }
 
 // What becomes of the head of a line: its check goes on, it has its answer, or its check has run out.
-#[derive(Drop)]
+#[derive(Clone, Copy)]
 pub enum HeadVerdict {
     Pending,
     Answer(u8),
@@ -113,7 +115,7 @@ pub enum HeadVerdict {
 }
 
 // What is wrong with a header, in document 01's order.
-#[derive(Drop)]
+#[derive(Clone, Copy)]
 pub enum Fault {
     Pattern,
     UnknownType,
@@ -122,7 +124,7 @@ pub enum Fault {
 }
 
 // The verdict on a header that came by TCP.
-#[derive(Drop)]
+#[derive(Clone, Copy)]
 pub enum Verdict {
     Passes,
     Wrong(Fault),
@@ -130,7 +132,7 @@ pub enum Verdict {
 
 // What ended a bytes call: "takes bytes until the input ends, a header is judged wrong, or one message is finished". A finished message has
 // its type and its payload's length, a skipped one its length.
-#[derive(Drop)]
+#[derive(Clone, Copy)]
 pub enum Event {
     InputEnded,
     Wrong(Fault),
@@ -139,7 +141,7 @@ pub enum Event {
 }
 
 // The verdict on a datagram; some are never answered, whatever is wrong with them.
-#[derive(Drop)]
+#[derive(Clone, Copy)]
 pub enum DatagramVerdict {
     NotAnswered,
     Passes,
@@ -147,7 +149,7 @@ pub enum DatagramVerdict {
 }
 
 // What an entry of the output sheet says. An enum holds no bytes: the one long payload of a call is lent beside its entries.
-#[derive(Drop)]
+#[derive(Clone, Copy)]
 pub enum Reply {
     // Send 0000: the code.
     Nack(u8),
@@ -174,7 +176,7 @@ pub enum Reply {
 }
 
 // An entry before it is bytes. The version is the row's (in the base always 03).
-#[derive(Drop)]
+#[derive(Clone, Copy)]
 pub struct Item {
     pub row: RowNo,
     pub version: u8,
@@ -182,7 +184,7 @@ pub struct Item {
 }
 
 // What a datagram gets.
-#[derive(Drop)]
+#[derive(Clone, Copy)]
 pub enum Answer {
     Nothing,
     With(Reply),

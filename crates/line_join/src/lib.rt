@@ -1,4 +1,6 @@
 // Joining the line, leaving it, and the marks of the running check.
+#![tactic(auto)]
+
 ghost use Rattle.std.specs.Prelude.{◌≡◌, ◌<◌, length};
 ghost use Rattle.model.specs.Line.{joined, left, is_asked, marked};
 ghost use Rattle.plan.specs.Plan.{PlanOk};

@@ -1,4 +1,6 @@
 // The lines that are printed for a day of recorded calls. Each function answers the place after what it put.
+#![tactic(auto)]
+
 ghost use Rattle.std.specs.Prelude.{◌≡◌, ◌++◌, ◌+◌, ◌*◌, ◌≤◌, length};
 ghost use Rattle.lines.specs.Text.{decimal, most_digits, Wrote};
 ghost use Rattle.lines.specs.Lines.{most_counts, most_farm_line, most_last_line, counts_text, sheet_text, answer_line, farm_line, last_word, last_line};
@@ -6,7 +8,7 @@ ghost use Rattle.lines.specs.Lines.{most_counts, most_farm_line, most_last_line,
 pub mod text; // text.rt: numbers as digits, bytes as hexadecimal
 
 // How the file ended.
-#[derive(Drop)]
+#[derive(Clone, Copy)]
 pub enum Ending {
     // After a whole record: the number of calls.
     End(usize),

@@ -1,4 +1,6 @@
 // The two messages that hold lent bytes, put into the buffer.
+#![tactic(auto)]
+
 ghost use Rattle.std.specs.Prelude.{◌≡◌, ◌+◌, ◌≤◌, ◌<◌, length};
 ghost use Rattle.octets.specs.Put.{put_at};
 ghost use Rattle.layout.specs.Layout.{identity_bytes, message_bytes};

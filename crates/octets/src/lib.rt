@@ -1,11 +1,13 @@
 // Big-endian numbers in lent bytes, and the one loop of the project that writes bytes.
+#![tactic(auto)]
+
 ghost use Rattle.std.specs.Prelude.{◌≡◌, ◌+◌, ◌*◌, ◌≤◌, length};
 ghost use Rattle.octets.specs.Numbers.{u16_at, u32_at, be16, be32};
 ghost use Rattle.octets.specs.Put.{put_at};
 ghost use Rattle.octets.specs.Search.{same_list};
 
 // What a search answers: the place of the first that fits, or that there is none.
-#[derive(Drop)]
+#[derive(Clone, Copy)]
 pub enum Found {
     At(usize),
     Nothing,

@@ -1,11 +1,13 @@
 // What stands in the payloads that the core reads. The header's verdict has seen to their lengths.
+#![tactic(auto)]
+
 ghost use Rattle.std.specs.Prelude.{◌≡◌, ◌≤◌, length};
 ghost use Rattle.payload.specs.Payload.{request_in, address_in, ends_in, user_data_in};
 
 use kinds::Request;
 
 // The two ends of a diagnostic message.
-#[derive(Drop)]
+#[derive(Clone, Copy)]
 pub struct Ends {
     pub source: u16,
     pub target: u16,

@@ -1,5 +1,7 @@
 // "a stream place is impossible: eight header bytes or more still unjudged, a payload already complete, a payload being read whose header
 // would be judged wrong, or one being skipped whose header would not get NACK 01 or 02"
+#![tactic(auto)]
+
 ghost use Rattle.std.specs.Prelude.{◌≡◌, ◌-◌, ltb, length, drop, replicate};
 ghost use Rattle.octets.specs.Choice.{both};
 ghost use Rattle.octets.specs.Search.{same_list};

@@ -1,4 +1,6 @@
 // The plan: a count, then items of eight bytes. A caller lends the bytes, and speaks of items only.
+#![tactic(auto)]
+
 ghost use Rattle.std.specs.Prelude.{◌≡◌, ◌+◌, ◌*◌, ◌≤◌, [], ◌∷◌, length};
 ghost use Rattle.plan.specs.Plan.{plan_size, item_size, tagged, item_image, reply_from, item_at, items_of, PlanOk, Said, pushed_to};
 

@@ -1,5 +1,7 @@
 // Plays the day of recorded calls that its first argument names, and writes a line for each call; or, where the second argument is
 // `explain`, tells each call in words.
+#![tactic(auto)]
+
 use libc::STDERR_FILENO;
 
 mod dayfile; // dayfile.rt: the day's file, read in pieces

@@ -1,4 +1,6 @@
 // 0005, a request for activation (001, 12.5 and 12.6): decided in document 01's order, then answered at once or put in the line.
+#![tactic(auto)]
+
 ghost use Rattle.std.specs.Prelude.{◌≡◌, ◌<◌, length};
 ghost use Rattle.model.specs.FarmSheet.{farm_sheet};
 ghost use Rattle.model.specs.Row.{row_at};

@@ -1,4 +1,6 @@
 // One record carried out on the program's own memory: "Both buffers and the table are the program's own memory, carried from call to call."
+#![tactic(auto)]
+
 ghost use Rattle.std.specs.Prelude.{◌≡◌, ◌≤◌, length};
 ghost use Rattle.day.specs.Next.{RoomsFit};
 ghost use Rattle.lent.specs.Served.{memory, Served};

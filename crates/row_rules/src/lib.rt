@@ -1,4 +1,6 @@
 // One row, at its seat: all that is asked of it.
+#![tactic(auto)]
+
 ghost use Rattle.std.specs.Prelude.{◌≡◌, ◌<◌, ltb, length};
 ghost use Rattle.sheet.specs.Rules.{GoodSheet};
 ghost use Rattle.table.specs.Layout.{seats, block_size};

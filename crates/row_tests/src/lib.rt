@@ -1,4 +1,6 @@
 // What rule 4 asks of one row, each question by itself.
+#![tactic(auto)]
+
 ghost use Rattle.std.specs.Prelude.{◌≡◌, not, ◌+◌, ◌<◌, length, drop};
 ghost use Rattle.octets.specs.Choice.{either};
 ghost use Rattle.octets.specs.Search.{some};

@@ -1,4 +1,6 @@
 // A row as twenty bytes: state, place in the byte stream, the header's bytes, one spare byte that stays 0.
+#![tactic(auto)]
+
 ghost use Rattle.std.specs.Prelude.{◌≡◌, ◌∷◌, length};
 ghost use Rattle.octets.specs.Numbers.{be32};
 ghost use Rattle.octets.specs.Says.{Says};

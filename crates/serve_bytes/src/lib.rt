@@ -1,4 +1,6 @@
 // Bytes from a row, on the table, in the row's room and with the output sheet.
+#![tactic(auto)]
+
 ghost use Rattle.std.specs.Prelude.{◌≡◌, false, ◌<◌, ◌≤◌, length};
 ghost use Rattle.sheet.specs.Rows.{rows_owned};
 ghost use Rattle.model.specs.Row.{row_at, is_waiting};

@@ -1,4 +1,6 @@
 // A message from a controller, with the output sheet.
+#![tactic(auto)]
+
 ghost use Rattle.std.specs.Prelude.{◌≡◌, ◌<◌, ◌≤◌, length};
 ghost use Rattle.sheet.specs.Sheet.{most_farms};
 ghost use Rattle.plan.specs.Plan.{PlanOk};

@@ -1,4 +1,6 @@
 // A datagram's reply, with the output sheet.
+#![tactic(auto)]
+
 ghost use Rattle.std.specs.Prelude.{[], ◌≤◌, length};
 ghost use Rattle.datagram.specs.Datagram.{answer_to};
 ghost use Rattle.sheet.specs.Sheet.{farm_record};

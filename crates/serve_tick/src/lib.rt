@@ -1,4 +1,6 @@
 // A tick of all farms, on the table and with the output sheet: "A tick serves the farms in order".
+#![tactic(auto)]
+
 ghost use Rattle.std.specs.Prelude.{◌≡◌, [], ◌<◌, ◌≤◌, length};
 ghost use Rattle.sheet.specs.Sheet.{most_farms, farm_count};
 ghost use Rattle.model.specs.Move.{ticked};

@@ -9,14 +9,14 @@ use crate::head::{target_count, targets_at, tester_count, testers_at};
 use kinds::FarmNo;
 
 // A tester or a target. The flag is a target's reachable; a tester's is 0.
-#[derive(Drop)]
+#[derive(Clone, Copy)]
 pub struct Known {
     pub address: u16,
     pub farm: FarmNo,
     pub flag: u8,
 }
 
-#[derive(Drop)]
+#[derive(Clone, Copy)]
 pub enum Found {
     Is(Known),
     Nobody,

@@ -1,5 +1,7 @@
 // The farm sheet in its lent bytes: its counts, its farms, the lookups, and whose row is whose.
 // Document 01's rules of a sheet stand in specs/; the crate sheet_rules tests them.
+#![tactic(auto)]
+
 pub mod farms;
 pub mod find;
 pub mod head;

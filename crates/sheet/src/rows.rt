@@ -8,7 +8,7 @@ use crate::{FARM_SIZE, HEAD_SIZE};
 use kinds::{FarmNo, RowNo};
 
 // The farm that owns a row, and the row's seat within it, 0 to q; Nobody for a row beyond the sheet's.
-#[derive(Drop)]
+#[derive(Clone, Copy)]
 pub enum Owner {
     Seat(FarmNo, u8),
     Nobody,

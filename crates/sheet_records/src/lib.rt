@@ -1,4 +1,6 @@
 // The rules of a section's records, one pass over them from a place on; the first broken rule ends it.
+#![tactic(auto)]
+
 ghost use Rattle.std.specs.Prelude.{◌≡◌, ◌+◌, ◌*◌, ◌≤◌, length};
 ghost use Rattle.octets.specs.Says.{Says};
 ghost use Rattle.sheet.specs.Sheet.{head_size, farm_size, known_size};

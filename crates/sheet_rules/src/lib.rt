@@ -1,5 +1,7 @@
 // Refusal 1: does the sheet keep every rule? It is asked on every call of the gateway: the header here, then one pass over each
 // section, by the reader.
+#![tactic(auto)]
+
 ghost use Rattle.std.specs.Prelude.{◌≤◌, length};
 ghost use Rattle.octets.specs.Says.{Says};
 ghost use Rattle.sheet.specs.Sheet.{head_size};

@@ -1,4 +1,6 @@
 // The output sheet, written from a plan and at most one long payload. Each byte is written once.
+#![tactic(auto)]
+
 ghost use Rattle.std.specs.Prelude.{◌≡◌, length};
 ghost use Rattle.outsheet.specs.Sheet.{sheet_of};
 ghost use Rattle.outsheet.specs.Replies.{entries_of};

@@ -1,4 +1,6 @@
 // The replies of known length, each as an array by value.
+#![tactic(auto)]
+
 ghost use Rattle.std.specs.Prelude.{◌≡◌};
 ghost use Rattle.layout.specs.Layout.{nack_bytes, activation_bytes, alive_check_bytes, status_bytes, power_mode_bytes, ack_bytes, diagnostic_nack_bytes};
 

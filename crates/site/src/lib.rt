@@ -1,4 +1,6 @@
 // A farm's three numbers, read off the sheet: its first row, its quota, its entity address.
+#![tactic(auto)]
+
 ghost use Rattle.std.specs.Prelude.{◌<◌};
 ghost use Rattle.sheet.specs.Sheet.{farm_count};
 ghost use Rattle.sheet.specs.Rules.{GoodSheet};

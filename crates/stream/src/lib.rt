@@ -1,5 +1,7 @@
 // What a bytes call takes of its input on one row, a run of bytes at a time. "A bytes call takes bytes until the input ends, a header is
 // judged wrong, or one message is finished, and says how many it took."
+#![tactic(auto)]
+
 ghost use Rattle.std.specs.Prelude.{◌≡◌, List, ℕ, ◌+◌, ◌≤◌, ◌<◌, ◌^◌, min, length, drop};
 ghost use Rattle.kinds.specs.declared.Place.TheVariants.{Header, Reading, Skipping};
 ghost use Rattle.wire.specs.Header.{header_at, verdict_of, most_payload};
@@ -13,7 +15,7 @@ use kinds::{Event, Fault, Place, Verdict};
 const HEADER_SIZE: usize = 8;
 
 // How many bytes were taken, what ended the call, and where the row's stream is then. The payload is in the row's room.
-#[derive(Drop)]
+#[derive(Clone, Copy)]
 pub struct Took {
     pub count: usize,
     pub event: Event,

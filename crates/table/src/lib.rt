@@ -1,5 +1,7 @@
 // One farm's block of the lent table: decoded to values where it is read, laid out where it is stored. Only this crate, table_meters,
 // table_line and table_whole know a place of it.
+#![tactic(auto)]
+
 pub mod clock; // clock.rt: the check clock
 pub mod marks; // marks.rt: who answered
 pub mod row; // row.rt: the rows

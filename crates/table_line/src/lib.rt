@@ -1,4 +1,6 @@
 // "a line of waiting rows": how many, then their seats, the head first; the places past the last are 0.
+#![tactic(auto)]
+
 ghost use Rattle.std.specs.Prelude.{◌≡◌, [], ◌∷◌, ◌++◌, ◌<◌, length, get_or, drop};
 ghost use Rattle.octets.specs.Put.{put_at};
 ghost use Rattle.octets.specs.Parts.{part};

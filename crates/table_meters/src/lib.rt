@@ -1,4 +1,6 @@
 // "Per farm, u32, wrapping on purpose". An amount is given as header and payload bytes: their sum may not fit, and only the meter wraps.
+#![tactic(auto)]
+
 ghost use Rattle.std.specs.Prelude.{◌≡◌, ◌+◌, length};
 ghost use Rattle.model.specs.Farm.{took_more, finished_more, lost_more, wrap, with_meters};
 ghost use Rattle.table.specs.Layout.{meters_size, block_size};

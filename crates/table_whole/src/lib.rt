@@ -1,4 +1,6 @@
 // Whether a block's bytes are those of a farm: by tags and zeros, nothing is laid out again. Any bytes of meters and clock are.
+#![tactic(auto)]
+
 ghost use Rattle.std.specs.Prelude.{◌≡◌, length};
 ghost use Rattle.octets.specs.Says.{Says};
 ghost use Rattle.table.specs.Layout.{block_size};

@@ -1,10 +1,12 @@
 // The constant table of payload types, and the two questions that are asked of it.
+#![tactic(auto)]
+
 ghost use Rattle.std.specs.Prelude.{◌≡◌, ◌<◌};
 ghost use Rattle.octets.specs.Search.{some};
 ghost use Rattle.types.specs.Types.{types, line_at, is_of, is_of_length, is_asked, known_on, length_fits};
 
 // A line of the table: a payload type, the port that it is known on, the least and the greatest payload length.
-#[derive(Drop)]
+#[derive(Clone, Copy)]
 pub struct Kind {
     pub kind: u16,
     pub port: u8,
@@ -138,7 +140,7 @@ fn allows(k: Kind, port: u8, kind: u16, n: u32) -> bool
 }
 
 // What is asked of the table: a line of the type, or one that allows this length too.
-#[derive(Drop)]
+#[derive(Clone, Copy)]
 enum Asked {
     AnyLength,
     Length(u32),

@@ -4,7 +4,7 @@ ghost use Rattle.wire.specs.Header.{header_at, verdict_of, code_of, closes, ever
 
 use kinds::{Fault, Verdict};
 
-#[derive(Drop)]
+#[derive(Clone, Copy)]
 pub struct Header {
     pub version: u8,
     pub inverse: u8,

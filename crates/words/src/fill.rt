@@ -7,7 +7,7 @@ ghost use Rattle.words.specs.Sentence.{arg_text, arg_texts, sentence, sentence_t
 use crate::{book, put};
 
 // What fills a hole.
-#[derive(Drop)]
+#[derive(Clone, Copy)]
 pub enum Arg {
     Blank,
     // In decimal.
@@ -21,7 +21,7 @@ pub enum Arg {
 }
 
 // A phrase by its number, and what fills its holes, in their order.
-#[derive(Drop)]
+#[derive(Clone, Copy)]
 pub struct Sentence {
     pub phrase: usize,
     pub a: Arg,
