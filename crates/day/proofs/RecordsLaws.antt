@@ -19,7 +19,8 @@ use Rattle.day.specs.declared.records.Read.{Read}
 use Rattle.day.specs.declared.records.Read.TheVariants as read
 use Rattle.day.specs.declared.records.Next.{Next}
 use Rattle.day.specs.declared.records.Next.TheVariants.{Whole, Cut, Bad}
-use Rattle.day.specs.Records.{if_right, farm_no, row_no, empty_in, connect_in, bytes_in, closed_in, lost_in, datagram_in, controller_in, rooms_of, rooms_in, damage_in, record_of, record_in, fixed_of, most_room}
+use Rattle.day.specs.Records.{if_right, farm_no, row_no, rooms_of, record_of, record_in, fixed_of, most_room}
+use Rattle.day.specs.Records.{empty_in, connect_in, bytes_in, closed_in, lost_in, datagram_in, controller_in, rooms_in, damage_in}
 use Rattle.day.specs.Next.{least_length, most_length, next_of, RoomsFit, Among, Lies}
 
 -- the four tests of `next_at`

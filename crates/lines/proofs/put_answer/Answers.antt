@@ -7,10 +7,10 @@ use Rattle.lines.proofs.LinesLaws.{length-counts, length-sheet}
 use Rattle.lines.proofs.put_answer.Goals as goal
 
 pub put_sheet-b-requires : goal.put_sheet-b-requires
-put_sheet-b-requires c = omega (arith, c.put_counts-a.ensures.after, length-counts c.args.number c.args.row c.args.taken, c.put_counts-a.auto.out, c.requires)
+put_sheet-b-requires c = omega (arith, length-counts c.args.number c.args.row c.args.taken)
 
 pub put_words-requires : goal.put_words-requires
-put_words-requires c = omega (arith, c.put_counts-a.ensures.after, length-counts c.args.number c.args.row c.args.taken, c.put_counts-a.auto.out, c.put_sheet-b.ensures.after, length-sheet c.args.number c.args.sheet.now, c.put_sheet-b.auto.out, c.requires)
+put_words-requires c = omega (arith, length-counts c.args.number c.args.row c.args.taken, length-sheet c.args.number c.args.sheet.now)
 
 pub returns : goal.returns
 unfolding answer_line

@@ -6,13 +6,13 @@ use Rattle.lines.proofs.TextLaws.{length-decimal, wrote-more}
 use Rattle.lines.proofs.put_counts.Goals as goal
 
 pub put_named-b-requires : goal.put_named-b-requires
-put_named-b-requires c = omega (arith, c.put_decimal-a.ensures.after, length-decimal c.args.number, c.put_decimal-a.auto.out)
+put_named-b-requires c = omega (arith, length-decimal c.args.number)
 
 pub put_named-c-requires : goal.put_named-c-requires
-put_named-c-requires c = omega (arith, c.put_decimal-a.ensures.after, length-decimal c.args.number, c.put_decimal-a.auto.out, c.put_named-b.ensures.after, length-decimal c.args.row, c.put_named-b.auto.out)
+put_named-c-requires c = omega (arith, length-decimal c.args.number, length-decimal c.args.row)
 
 pub put_words-requires : goal.put_words-requires
-put_words-requires c = omega (arith, c.put_decimal-a.ensures.after, length-decimal c.args.number, c.put_decimal-a.auto.out, c.put_named-b.ensures.after, length-decimal c.args.row, c.put_named-b.auto.out, c.put_named-c.ensures.after, length-decimal c.args.taken, c.put_named-c.auto.out)
+put_words-requires c = omega (arith, length-decimal c.args.number, length-decimal c.args.row, length-decimal c.args.taken)
 
 pub returns : goal.returns
 unfolding counts_text

@@ -6,16 +6,16 @@ use Rattle.lines.proofs.TextLaws.{length-decimal, wrote-more}
 use Rattle.lines.proofs.put_farm.Goals as goal
 
 pub put_named-b-requires : goal.put_named-b-requires
-put_named-b-requires c = omega (arith, c.put_named-a.ensures.after, length-decimal c.args.f, c.put_named-a.auto.out, c.requires)
+put_named-b-requires c = omega (arith, length-decimal c.args.f)
 
 pub put_named-c-requires : goal.put_named-c-requires
-put_named-c-requires c = omega (arith, c.put_named-a.ensures.after, length-decimal c.args.f, c.put_named-a.auto.out, c.put_named-b.ensures.after, length-decimal c.args.taken, c.put_named-b.auto.out, c.requires)
+put_named-c-requires c = omega (arith, length-decimal c.args.f, length-decimal c.args.taken)
 
 pub put_named-d-requires : goal.put_named-d-requires
-put_named-d-requires c = omega (arith, c.put_named-a.ensures.after, length-decimal c.args.f, c.put_named-a.auto.out, c.put_named-b.ensures.after, length-decimal c.args.taken, c.put_named-b.auto.out, c.put_named-c.ensures.after, length-decimal c.args.finished, c.put_named-c.auto.out, c.requires)
+put_named-d-requires c = omega (arith, length-decimal c.args.f, length-decimal c.args.taken, length-decimal c.args.finished)
 
 pub put_words-requires : goal.put_words-requires
-put_words-requires c = omega (arith, c.put_named-a.ensures.after, length-decimal c.args.f, c.put_named-a.auto.out, c.put_named-b.ensures.after, length-decimal c.args.taken, c.put_named-b.auto.out, c.put_named-c.ensures.after, length-decimal c.args.finished, c.put_named-c.auto.out, c.put_named-d.ensures.after, length-decimal c.args.lost, c.put_named-d.auto.out, c.requires)
+put_words-requires c = omega (arith, length-decimal c.args.f, length-decimal c.args.taken, length-decimal c.args.finished, length-decimal c.args.lost)
 
 pub returns : goal.returns
 unfolding farm_line
