@@ -1,4 +1,4 @@
--- `places::shift` meets its contract.
+-- The invariant and the measure of the loop of `places::shift`.
 -- Assumes nothing.
 use mathlib.Core.Path.{◌≡◌}
 use Prim.Native.Nat.{◌-◌, ◌≤◌}

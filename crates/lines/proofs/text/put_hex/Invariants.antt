@@ -1,4 +1,4 @@
--- `text::put_hex` meets its contract.
+-- The invariant and the measure of the loop of `text::put_hex`.
 -- Assumes nothing.
 use mathlib.Core.Path.{◌≡◌}
 use Prim.Native.Nat.{◌-◌, ◌≤◌}

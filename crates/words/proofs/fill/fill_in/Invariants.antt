@@ -1,4 +1,4 @@
--- `fill::fill_in` meets its contract.
+-- The invariant and the measure of the loop of `fill::fill_in`.
 -- Assumes nothing.
 use mathlib.Core.Path.{◌≡◌}
 use Prim.Native.Nat.{◌-◌, ◌≤◌}

@@ -1,4 +1,4 @@
--- `page::end_of` meets its contract.
+-- The invariant and the measure of the loop of `page::end_of`.
 -- Assumes nothing.
 use mathlib.Core.Path.{◌≡◌}
 use Prim.Native.Nat.{◌+◌, ◌-◌, ◌≤◌}

@@ -1,4 +1,4 @@
--- `page::start_of` meets its contract.
+-- The invariant and the measure of the loop of `page::start_of`.
 -- Assumes nothing.
 use mathlib.Core.Path.{◌≡◌}
 use Prim.Native.Nat.{◌≤◌}

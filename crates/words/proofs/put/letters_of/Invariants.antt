@@ -1,4 +1,4 @@
--- `put::letters_of` meets its contract.
+-- The invariant and the measure of the loop of `put::letters_of`.
 -- Assumes nothing.
 use mathlib.Core.Path.{◌≡◌}
 use Prim.Native.Nat.{◌-◌, ◌≤◌}
