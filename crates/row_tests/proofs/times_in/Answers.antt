@@ -37,8 +37,8 @@ loop-k-preserved c =
     elim c.if-i-seat_at.branch [
       then-i-seat_at w ↦
         (let n = count-here (eqb s.i) line l.k 0 h (eq-eqb s.i (get_or line l.k 0) (w.if-i-seat_at.true ∙ e)) in
-        (omega (arith, n, l.invariant.0, w.n-is), omega arith, l.invariant.2, omega (arith, w.n-is)))
+        (omega (arith, n, l.invariant.0, w.sum-is), omega arith, l.invariant.2, omega (arith, w.sum-is)))
     | else-i-seat_at w ↦
         (let n = count_next (eqb s.i) line l.k 0 h (ne_eqb s.i (get_or line l.k 0) (λ z. w.if-i-seat_at.false (z ∙ sym e))) in
-        (omega (arith, n, l.invariant.0, w.n-is), omega arith, l.invariant.2, omega (arith, w.n-is)))
+        (omega (arith, n, l.invariant.0, w.sum-is), omega arith, l.invariant.2, omega (arith, w.sum-is)))
     ]
