@@ -23,10 +23,12 @@ returns-then-times_in-ne0 c = let s = c.args in
 pub returns-then-not-is_tester : goal.returns-then-not-is_tester
 unfolding general_limit
 returns-then-not-is_tester c = let s = c.args in
-    simp (sym c.is_owned.ensures ∙ c.if-not-is_owned.false, lt-leb _ _ c.if-idle-ge-GENERAL.false, eq-eqb (times s.i (farm_of s.b.now).line) 0 (sym c.times_in.ensures ∙ c.if-times_in-ne0.false), sym c.is_tester.ensures ∙ c.if-not-is_tester.true)
+    let z = eq-eqb (times s.i (farm_of s.b.now).line) 0 (sym c.times_in.ensures ∙ c.if-times_in-ne0.false) in
+    simp (sym c.is_owned.ensures ∙ c.if-not-is_owned.false, lt-leb _ _ c.if-idle-ge-GENERAL.false, z, sym c.is_tester.ensures ∙ c.if-not-is_tester.true)
 
 pub returns : goal.returns
 unfolding general_limit
 returns c = let s = c.args in
-    simp (sym c.is_owned.ensures ∙ c.if-not-is_owned.false, lt-leb _ _ c.if-idle-ge-GENERAL.false, eq-eqb (times s.i (farm_of s.b.now).line) 0 (sym c.times_in.ensures ∙ c.if-times_in-ne0.false), sym c.is_tester.ensures ∙ c.if-not-is_tester.false)
+    let z = eq-eqb (times s.i (farm_of s.b.now).line) 0 (sym c.times_in.ensures ∙ c.if-times_in-ne0.false) in
+    simp (sym c.is_owned.ensures ∙ c.if-not-is_owned.false, lt-leb _ _ c.if-idle-ge-GENERAL.false, z, sym c.is_tester.ensures ∙ c.if-not-is_tester.false)
     (ap not c.again_after.ensures)

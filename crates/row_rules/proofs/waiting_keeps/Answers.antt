@@ -17,9 +17,11 @@ returns-then-q-gt1 c = simp (sym c.is_owned.ensures ∙ c.if-not-is_owned.false,
 
 pub returns-then-times_in-ne1 : goal.returns-then-times_in-ne1
 returns-then-times_in-ne1 c = let s = c.args in
-    simp (sym c.is_owned.ensures ∙ c.if-not-is_owned.false, sym c.is_boundary.ensures ∙ c.if-not-is_boundary.false, le-leb _ _ c.if-q-gt1.false, ne_eqb (times s.i (farm_of s.b.now).line) 1 (λ z. c.if-times_in-ne1.true (c.times_in.ensures ∙ z)))
+    let n = ne_eqb (times s.i (farm_of s.b.now).line) 1 (λ z. c.if-times_in-ne1.true (c.times_in.ensures ∙ z)) in
+    simp (sym c.is_owned.ensures ∙ c.if-not-is_owned.false, sym c.is_boundary.ensures ∙ c.if-not-is_boundary.false, le-leb _ _ c.if-q-gt1.false, n)
 
 pub returns : goal.returns
 returns c = let s = c.args in
-    simp (sym c.is_owned.ensures ∙ c.if-not-is_owned.false, sym c.is_boundary.ensures ∙ c.if-not-is_boundary.false, le-leb _ _ c.if-q-gt1.false, eq-eqb (times s.i (farm_of s.b.now).line) 1 (sym c.times_in.ensures ∙ c.if-times_in-ne1.false))
+    let n = eq-eqb (times s.i (farm_of s.b.now).line) 1 (sym c.times_in.ensures ∙ c.if-times_in-ne1.false) in
+    simp (sym c.is_owned.ensures ∙ c.if-not-is_owned.false, sym c.is_boundary.ensures ∙ c.if-not-is_boundary.false, le-leb _ _ c.if-q-gt1.false, n)
     c.is_tester.ensures

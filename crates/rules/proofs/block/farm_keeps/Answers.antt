@@ -52,7 +52,8 @@ returns-then-not-head_keeps c = let s = c.args in
     let r = eq-eqb (length x.rows) 9 (nine s.b.now) in
     let m = eq-eqb (length x.marks) 9 (marks-seats s.b.now c.requires.0) in
     let h : count_if is_active x.rows ≤ s.site.quota = omega (arith, c.if-q-count_active.false, c.wide-q.ensures, c.count_active.ensures) in
-    simp (r, m, sym c.seats_keep.ensures ∙ c.if-not-seats_keep.false, le-leb _ _ h, sym c.line_seated.ensures ∙ c.if-not-line_seated.false, sym (c.head_keeps.ensures ∙ head_carried s.s.now s.f.0 s.site s.rows x x.line) ∙ c.if-not-head_keeps.true)
+    let k = sym (c.head_keeps.ensures ∙ head_carried s.s.now s.f.0 s.site s.rows x x.line) ∙ c.if-not-head_keeps.true in
+    simp (r, m, sym c.seats_keep.ensures ∙ c.if-not-seats_keep.false, le-leb _ _ h, sym c.line_seated.ensures ∙ c.if-not-line_seated.false, k)
 
 pub returns : goal.returns
 unfolding good_farm seat_count rule_sheet check_limit
@@ -61,5 +62,6 @@ returns c = let s = c.args in
     let r = eq-eqb (length x.rows) 9 (nine s.b.now) in
     let m = eq-eqb (length x.marks) 9 (marks-seats s.b.now c.requires.0) in
     let h : count_if is_active x.rows ≤ s.site.quota = omega (arith, c.if-q-count_active.false, c.wide-q.ensures, c.count_active.ensures) in
-    simp (r, m, sym c.seats_keep.ensures ∙ c.if-not-seats_keep.false, le-leb _ _ h, sym c.line_seated.ensures ∙ c.if-not-line_seated.false, sym (c.head_keeps.ensures ∙ head_carried s.s.now s.f.0 s.site s.rows x x.line) ∙ c.if-not-head_keeps.false)
+    let k = sym (c.head_keeps.ensures ∙ head_carried s.s.now s.f.0 s.site s.rows x x.line) ∙ c.if-not-head_keeps.false in
+    simp (r, m, sym c.seats_keep.ensures ∙ c.if-not-seats_keep.false, le-leb _ _ h, sym c.line_seated.ensures ∙ c.if-not-line_seated.false, k)
     (ap (λ (k : Clock). ltb k.ticks 50) c.clock_at-c.ensures)
