@@ -5,8 +5,8 @@ use lib.ListN.{length}
 use Rattle.lent.proofs.ZeroLaws.{Zeros}
 use Rattle.call_start.proofs.clear.Given as goal
 
-abbrev pub invariant-loop : goal.invariant-loop
-invariant-loop l = Zeros l.t l.i (length l.initial.t)
+abbrev pub invariant-loop-i : goal.invariant-loop-i
+invariant-loop-i l = Zeros l.t l.i (length l.initial.t)
 
-abbrev pub decreases-loop : goal.decreases-loop
-decreases-loop l = length l.initial.t - l.i
+abbrev pub decreases-loop-i : goal.decreases-loop-i
+decreases-loop-i l = length l.initial.t - l.i

@@ -2,6 +2,7 @@
 -- Assumes nothing.
 use mathlib.Core.Path.{◌∙◌, sym}
 use native.Mathlib.Omega.{arith}
+use borrow.Author.Rules.{rules}
 use Rattle.model.specs.Move.{no_row}
 use Rattle.model.specs.Table.{least_output}
 use Rattle.lent.proofs.GateLaws.{start_passes}

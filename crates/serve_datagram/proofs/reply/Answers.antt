@@ -7,8 +7,8 @@ use Rattle.model.specs.Move.{no_row}
 use Rattle.serve.proofs.SaidLaws.{record_long, open_byte, answer_same, answer-room, answer_out}
 use Rattle.serve_datagram.proofs.reply.Goals as goal
 
-pub overflow_cast-answer : goal.overflow_cast-answer
-overflow_cast-answer c = omega (arith, c.open_rows-n.ensures, open_byte c.requires.0)
+pub overflow_cast-n : goal.overflow_cast-n
+overflow_cast-n c = omega (arith, c.open_rows-n.ensures, open_byte c.requires.0)
 
 pub answer-a-requires : goal.answer-a-requires
 answer-a-requires c = ap length c.record_of-farm.ensures ∙ record_long c.requires.0
