@@ -47,3 +47,12 @@ overflow_cast-row c = let k : c.site_of-site.result.first + c.in-At.seat < most_
 pub finish_empty-requires : goal.finish_empty-requires
 unfolding least_output
 finish_empty-requires c = (gate_passes _ _ _ _ (sym c.refusal-n.ensures ∙ omega (arith, c.if-n-gt0.false))).lendable.output
+
+pub returns : goal.returns
+returns c =
+    connect-served _ _ _ _ (gate_passes _ _ _ _ (sym c.refusal-n.ensures ∙ omega (arith, c.if-n-gt0.false))) (search rules) _ _ _ _
+    (ltb-true _ _ (sym c.has_farm.ensures ∙ c.if-not-has_farm.false))
+    (ap (λ (k : ℕ). k + 1) c.wide-rows.ensures ∙ sited_rows _ _ _ c.site_of-site.ensures)
+    c.connect_at-found.ensures _ _ _ _ _ c.in-At.is
+    (ap (λ (k : ℕ). k + c.in-At.seat) (c.wide.ensures ∙ sited_first _ _ _ c.site_of-site.ensures))
+    c.finish_empty.ensures.value c.finish_empty.ensures.wrote
