@@ -12,7 +12,7 @@ ghost use Rattle.reader.specs.Sections.{GoodSections};
 
 use sheet::{FARM_SIZE, HEAD_SIZE, KNOWN_SIZE};
 
-#[derive(Drop)]
+#[derive(Clone, Copy)]
 pub struct Reader<'a> {
     pub bytes: &'a [u8],
     pub at: usize,
