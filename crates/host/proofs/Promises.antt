@@ -74,9 +74,9 @@ start_refused_exactly s a before after x n =
     (λ e. k.0 (sym x.number ∙ e), λ h. x.number ∙ k.1 h)
 
 -- bytes that are those of no table: 4, exactly where 1 to 3 do not apply
-pub no_table-refused : (s : List ℕ) (c : Call) (a : Answer) (before after : Memory) → CallServed s c a before after → whole_table before.table ≡ false
+pub no_table_refused : (s : List ℕ) (c : Call) (a : Answer) (before after : Memory) → CallServed s c a before after → whole_table before.table ≡ false
     → (a.number ≡ 4) ↔ Lendable s before.output before.assembling
-no_table-refused s c a before after x w =
+no_table_refused s c a before after x w =
     let k = refused_exactly s c a before after x 4 in (
       λ e. let h = k.0 e in record { sheet = h.0; output = h.1.0; assembling = h.1.1.0 },
       λ l. k.1 (l.sheet, (l.output, (l.assembling, λ g. never (sym w ∙ g.whole)))),
@@ -183,7 +183,7 @@ module _ {s t m : List ℕ} (b : Began s t m) where
   answered_in_time {past} {u} {n} h out row g seat k input q a joined own x e w place {ms} rest lost ticks =
       decided_responds s row q.address whole rest
       (subst (λ (y : Table). Decided s row q.address y ms) (sym after)
-      (rules.readable-answered_in_time s (rooms b) past (made out n (bytes_from row input)) row g seat k q (room_enough row g seat own)
+      (rules.readable_answered_in_time s (rooms b) past (made out n (bytes_from row input)) row g seat k q (room_enough row g seat own)
       (subst (λ (y : Table). ReadableWaits s y (made out n (bytes_from row input)) row g seat q) (history_means b h) waits)
       (place ∙ ap (λ (y : Farm). length y.line + 1) (sym (slot-now h g (owner_seat s row g seat own).farm_within))) ms
       (ap (λ (y : Table). cut_in row g s y ms) (sym after) ∙ sym (losses_are row g whole rest) ∙ lost)
@@ -214,11 +214,11 @@ module _ {s t m : List ℕ} (b : Began s t m) where
   -- ---- Meters: "Each is defined from the history of calls by itself. Proved: taken equals finished plus lost plus the bytes in hand on open
   -- rows, modulo 2^32." (what gateway's meters answers)
 
-  pub meters-from_the_history : {ms : List Made} {u n : List ℕ} → Calls s t m ms u n → (g : ℕ) → g < farm_count s
+  pub meters_from_the_history : {ms : List Made} {u n : List ℕ} → Calls s t m ms u n → (g : ℕ) → g < farm_count s
       → MetersAre (slot_sheet s g) (notes_of s (fresh (rooms b)) ms) (farm_of (block u g)).meters
-  meters-from_the_history {ms} h g i =
+  meters_from_the_history {ms} h g i =
       subst (λ (y : Farm). MetersAre (slot_sheet s g) (notes_of s (fresh (rooms b)) ms) y.meters) (slot-now h g i)
-      (rules.meters-from_the_history s (rooms b) ms g i)
+      (rules.meters_from_the_history s (rooms b) ms g i)
 
   pub meters_balance : {ms : List Made} {u n : List ℕ} → Calls s t m ms u n → (g : ℕ) → g < farm_count s → Balanced (farm_of (block u g))
   meters_balance {ms} h g i = subst Balanced (slot-now h g i) (rules.meters_balance s (rooms b) ms g i)

@@ -84,11 +84,11 @@ module _ (s : List ℕ) (c : Call) (before : Memory) where
   four true true false = refl
   four true true true = refl
 
-  no_table-number : whole_table before.table ≡ false
+  no_table_number : whole_table before.table ≡ false
       → number_of (lent_step s before.table before.output before.assembling c)
       ≡ first_failed (good_sheet s ∷ leb least_output (length before.output) ∷ eqb (length before.assembling) assembling_size ∷ false ∷ [])
   unfolding lent_step
-  no_table-number w =
+  no_table_number w =
       ap
       (λ (b : Bool). number_of (if_lent s (lent_of before.output before.assembling) (unless b (refuses 4) (step s (lent_of before.output before.assembling) (lent_table s before.table before.assembling) c))))
       w
@@ -98,7 +98,7 @@ module _ (s : List ℕ) (c : Call) (before : Memory) where
       → (number_of (lent_step s before.table before.output before.assembling c) ≡ n) ↔ FirstBroken (call_rules s c before) n
   on_no_table w n =
       let not : TableGood s before.table before.assembling → ⊥ = λ g. never (sym w ∙ g.whole) in
-      let e = no_table-number w in
+      let e = no_table_number w in
       let d =
       first_broken
       (also (good-says s)

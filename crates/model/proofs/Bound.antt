@@ -55,6 +55,7 @@ module _ (s : List ℕ) (g seat row : ℕ) (q : Request) (owner : owner_of s row
   ends-answered : (t : Table) (ms : List Made) → Within (next s g seat row q owner) (tick_of s g seat row q owner) (EndsBy s g seat row q owner) t ms
       → cut_in row g s t ms ≡ false → Answered row q.address (entries_in s t ms)
   unfolding cut_in entries_in
+  ends-answered t [] within c = elim within [ ]
   ends-answered t (m ∷ ms) (now (answer a)) c = more_left (entries_in s (table_of t (step_of s t m)) ms) a
   ends-answered t (m ∷ ms) (now (cut e)) c = absurd (false≢true (sym (either-false (cuts row g s t m) _ c).0 ∙ e))
   ends-answered t (m ∷ ms) (later w) c =

@@ -180,6 +180,7 @@ record Nearer (seat x : ℕ) (l : List ℕ) (k : ℕ) : Type 0 where
   near : place ≤ k
 
 leaves : (seat x : ℕ) → (seat ≡ x → ⊥) → (l : List ℕ) (k : ℕ) → Stands seat l k → Nearer seat x l k
+leaves seat x ne [] k stands = elim stands [ ]
 leaves seat x ne (y ∷ l) zero (first e) =
     split (eqb x y) (λ t. absurd (ne (e ∙ sym (eqb-true x y t)))) (λ f. record { place = 0; at = rw f (first e); near = omega arith })
 leaves seat x ne (y ∷ l) (suc k) (behind a) =
@@ -190,6 +191,7 @@ leaves seat x ne (y ∷ l) (suc k) (behind a) =
 module _ (own : FarmSheet) (seat : ℕ) (q : Request) (n : ℕ) (x : ℕ) (ne : seat ≡ x → ⊥) where
   left_due : (line : List ℕ) (k : ℕ) (f : Farm) → f.clock.ticks ≤ check_limit → Stands seat line k
       → check_limit * k + check_limit ≤ n + f.clock.ticks → Asks seat q f → Goes own seat q n x ne (left_by own x line f)
+  left_due [] k f r stands w a = elim stands [ ]
   left_due (head ∷ rest) zero f r (first e) w a =
       pick_case (Goes own seat q n x ne) (eqb x head) _ _ (λ t. absurd (ne (e ∙ sym (eqb-true x head t))))
       (λ t. waits (record { place = 0; at = first e; runs = r; within = w; asks = a }))

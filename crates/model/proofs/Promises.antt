@@ -59,8 +59,8 @@ refused_changes_nothing s l t c = refusals.refused_unchanged t (step s l t c)
 
 -- ---- "From a fresh table": that is what an accepted start leaves, over the rooms that were lent, whatever the table was
 
-pub start_is-fresh : (s : List ℕ) (l : Lent) (t : Table) (d : Did) → start_step s l t ≡ did d → d.table ≡ fresh (map (λ (h : Held). h.rooms) t)
-start_is-fresh = start_fresh
+pub start_is_fresh : (s : List ℕ) (l : Lent) (t : Table) (d : Did) → start_step s l t ≡ did d → d.table ≡ fresh (map (λ (h : Held). h.rooms) t)
+start_is_fresh = start_fresh
 
 -- ---- Rule 4 is kept: every call on a table that keeps it leaves one that keeps it, and so refusal 4 never meets a history
 
@@ -105,12 +105,12 @@ answered_at_once = at_once.history_at_once
 
 -- The request is told by its bytes: a whole 0005 that the header rules pass, in the row's 2,048 bytes of room. `Decided`: some call among
 -- those that follow sends it a 0006 for its address, with the code that the rules give in that call.
-pub readable-answered_in_time : (s : List ℕ) (rooms : List (List (List ℕ))) (past : List Made) (m : Made) (row g seat k : ℕ) (q : Request)
+pub readable_answered_in_time : (s : List ℕ) (rooms : List (List (List ℕ))) (past : List Made) (m : Made) (row g seat k : ℕ) (q : Request)
     → most_payload ≤ length (get_or (get_or rooms g []) seat [])
     → ReadableWaits s (run s (fresh rooms) past) m row g seat q → k ≡ length (slot (run s (fresh rooms) past) g).farm.line + 1
     → let joined = table_of (run s (fresh rooms) past) (step_of s (run s (fresh rooms) past) m) in
     (ms : List Made) → cut_in row g s joined ms ≡ false → check_limit * k ≤ ticks_in s joined ms → Decided s row q.address joined ms
-readable-answered_in_time s rooms past m row g seat k q room w e ms c h =
+readable_answered_in_time s rooms past m row g seat k q room w e ms c h =
     answered-decided s row q.address _ ms (readable.readable-is-answered s rooms past m row g seat k q room w e ms c h)
 
 -- of a request that the call reads, whatever room it has: a 0006 is among the entries
@@ -126,12 +126,12 @@ pub joins_at_the_end : (s : List ℕ) (t : Table) (m : Made) (row g seat : ℕ) 
 joins_at_the_end = bound.joins_at
 
 -- "The answer is the one the rules give at the moment of deciding.": every 0006 of a call of a farm, and of a tick, has its reason
-pub code-by_the_rules : (own : FarmSheet) (h : Held) (c : Own) → Each (told.Reasons own h c) (items_by (move own h c))
-code-by_the_rules = told.move_why
+pub code_by_the_rules : (own : FarmSheet) (h : Held) (c : Own) → Each (told.Reasons own h c) (items_by (move own h c))
+code_by_the_rules = told.move_why
 
-pub code-by_the_rules_in_a_tick : (own : FarmSheet) (h : Held)
+pub code_by_the_rules_in_a_tick : (own : FarmSheet) (h : Held)
     → Each (Told own (told.at_tick own h).line (told.at_tick own h)) (items_by (tick_move own h))
-code-by_the_rules_in_a_tick = told.tick_why
+code_by_the_rules_in_a_tick = told.tick_why
 
 -- ---- DEMAND 3: "And two such histories under the same sheet that agree on one farm's calls and on the accepted ticks, in their order, give
 -- that farm the same answers, replies and meters, whatever the other farms do." (and whatever stood in the assembling buffers before)
@@ -154,9 +154,9 @@ kept : (s : List ℕ) (rooms : List (List (List ℕ))) (ms : List Made) (g : ℕ
     → Good (slot_sheet s g) (slot (run s (fresh rooms) ms) g).farm
 kept s rooms ms g h = slot-good s 0 g (run s (fresh rooms) ms) g (omega arith) (run-good s (fresh rooms) ms (fresh-good s 0 rooms))
 
-pub meters-from_the_history : (s : List ℕ) (rooms : List (List (List ℕ))) (ms : List Made) (g : ℕ) → g < farm_count s
+pub meters_from_the_history : (s : List ℕ) (rooms : List (List (List ℕ))) (ms : List Made) (g : ℕ) → g < farm_count s
     → MetersAre (slot_sheet s g) (notes_of s (fresh rooms) ms) (slot (run s (fresh rooms) ms) g).farm.meters
-meters-from_the_history s rooms = meters.meters_are s rooms (kept s rooms)
+meters_from_the_history s rooms = meters.meters_are s rooms (kept s rooms)
 
 pub meters_balance : (s : List ℕ) (rooms : List (List (List ℕ))) (ms : List Made) (g : ℕ) → g < farm_count s
     → Balanced (slot (run s (fresh rooms) ms) g).farm

@@ -1,0 +1,9 @@
+-- `say::row_of` meets its contract.
+-- Assumes nothing.
+use mathlib.Core.Path.{refl}
+use Rattle.model.specs.Row.{no_head}
+use Rattle.closing.proofs.say.row_of.Goals as goal
+
+pub returns : goal.returns
+unfolding no_head
+returns c = refl
