@@ -2,6 +2,8 @@
 // `explain`, tells each call in words.
 #![tactic(auto)]
 
+ghost use Rattle.std.specs.Prelude.{◌≡◌, length};
+
 use say::fault::fail;
 use std::env::{Env, FillError};
 use std::fs::Files;
