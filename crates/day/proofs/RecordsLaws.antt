@@ -1,6 +1,6 @@
 -- Laws of the records: which case of `next_at` it is, and where a whole record lies.
 -- Assumes nothing.
-use mathlib.Core.Path.{◌≡◌, refl, sym, ap, subst, ◌∙◌}
+use mathlib.Core.Path.{◌≡◌, refl, subst}
 use mathlib.Core.Bool.{Bool, true, false}
 use mathlib.Core.List.{List}
 use Prim.Native.Nat.{ℕ, ◌+◌, ◌-◌, ◌≤◌, ◌<◌}
@@ -19,8 +19,9 @@ use Rattle.day.specs.declared.records.Read.{Read}
 use Rattle.day.specs.declared.records.Read.TheVariants as read
 use Rattle.day.specs.declared.records.Next.{Next}
 use Rattle.day.specs.declared.records.Next.TheVariants.{Whole, Cut, Bad}
-use Rattle.day.specs.Records.{if_right, farm_no, row_no, empty_in, connect_in, bytes_in, closed_in, lost_in, datagram_in, controller_in, rooms_of, rooms_in, damage_in, record_of, record_in, fixed_of, most_room}
-use Rattle.day.specs.Next.{least_length, most_length, next_of, next_at, whole_at, RoomsFit, Among, Lies}
+use Rattle.day.specs.Records.{if_right, farm_no, row_no, rooms_of, record_of, record_in, fixed_of, most_room}
+use Rattle.day.specs.Records.{empty_in, connect_in, bytes_in, closed_in, lost_in, datagram_in, controller_in, rooms_in, damage_in}
+use Rattle.day.specs.Next.{least_length, most_length, next_of, RoomsFit, Among, Lies}
 
 -- the four tests of `next_at`
 module _ (left after n : ℕ) (whole : Next) where

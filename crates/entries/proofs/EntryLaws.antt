@@ -1,17 +1,14 @@
 -- Where an entry lies, by the three tests of `find`.
 -- Assumes nothing.
-use mathlib.Core.Path.{◌≡◌, refl, sym, ap, ◌∙◌}
-use mathlib.Core.Bool.{Bool, true}
+use mathlib.Core.Path.{◌≡◌, refl, ap, ◌∙◌}
+use mathlib.Core.Bool.{true}
 use Prim.Native.Nat.{ℕ, ◌+◌, ◌≤◌, ◌<◌}
-use native.Mathlib.Omega.{arith}
 use borrow.Author.Tests.{lt-ltb, le-ltb, eqb-true}
 use lib.Dec.{eqb}
 use lib.ListN.{length}
 use mathlib.Core.List.{List}
-use Rattle.octets.specs.Choice.{pick, both}
 use Rattle.octets.specs.Numbers.{u16_at}
 use Rattle.octets.proofs.ChoiceLaws.{both_left, both_right}
-use Rattle.entries.specs.declared.entry.Spot.{Spot}
 use Rattle.entries.specs.declared.entry.Spot.TheVariants.{At, Nowhere}
 use Rattle.entries.specs.Messages.{is_identity}
 use Rattle.entries.specs.Entries.{spot_of, is_apart}

@@ -1,9 +1,7 @@
 -- The lines of entries are short.
 -- Assumes nothing.
-use mathlib.Core.Bool.{Bool, true, false}
 use mathlib.Core.List.{List, [], ◌∷◌, ◌++◌}
-use Prim.Native.Nat.{ℕ, ◌+◌, ◌*◌, ◌-◌, ◌≤◌}
-use Prim.Native.String.{String}
+use Prim.Native.Nat.{ℕ, ◌+◌, ◌-◌, ◌≤◌}
 use native.Mathlib.Omega.{arith}
 use lib.Dec.{eqb, ltb}
 use lib.ListN.{length, get_or, drop, length-append}
@@ -19,8 +17,9 @@ use Rattle.words.proofs.SaidLaws.{length-letters}
 use Rattle.words.proofs.LengthLaws.{total, pick-short, fill-short, fault_short, activation_short, diagnostic-short, mode_short}
 use Rattle.entries.specs.declared.entry.Spot.{Spot}
 use Rattle.entries.specs.declared.entry.Spot.TheVariants.{At, Nowhere}
-use Rattle.entries.specs.Messages.{unreadable, nack_text, activation_text, alive_text, status_text, mode_text, diagnostic_text, answered_text, positive_text, negative_text, payload_text, message_text, is_identity, identity_text, handed_text}
-use Rattle.entries.specs.Entries.{to_text, plain_text, is_apart, what_text, entry_text, spot_text, spot_in, entry_line}
+use Rattle.entries.specs.Messages.{unreadable, nack_text, activation_text, alive_text, status_text, mode_text, diagnostic_text}
+use Rattle.entries.specs.Messages.{answered_text, positive_text, negative_text, payload_text, message_text, identity_text, handed_text}
+use Rattle.entries.specs.Entries.{to_text, plain_text, is_apart, what_text, spot_text, spot_in, entry_line}
 
 -- what is said of an entry, and the whole line
 abbrev pub most_what : ℕ
@@ -36,7 +35,13 @@ nack p =
     (filled "sent header negative acknowledge (0000): code %, %" (code (get_or p 0 0) ∷ fault_name (get_or p 0 0) ∷ []))
     unreadable
     most_what
-    (omega (arith, fill-short (spelled "sent header negative acknowledge (0000): code %, %") (code (get_or p 0 0) ∷ fault_name (get_or p 0 0) ∷ []), length-hex (get_or p 0 0 ∷ []), fault_short (get_or p 0 0)))
+    (omega (
+      arith,
+      fill-short (spelled "sent header negative acknowledge (0000): code %, %")
+          (code (get_or p 0 0) ∷ fault_name (get_or p 0 0) ∷ []),
+      length-hex (get_or p 0 0 ∷ []),
+      fault_short (get_or p 0 0),
+    ))
     (omega arith)
 
 activation : (p : List ℕ) → length (activation_text p) ≤ most_what
@@ -46,7 +51,15 @@ activation p =
     (filled "sent routing activation response (0006): tester %, entity %, code %, %" (address (u16_at p 0) ∷ address (u16_at p 2) ∷ code (get_or p 4 0) ∷ activation_name (get_or p 4 0) ∷ []))
     unreadable
     most_what
-    (omega (arith, fill-short (spelled "sent routing activation response (0006): tester %, entity %, code %, %") (address (u16_at p 0) ∷ address (u16_at p 2) ∷ code (get_or p 4 0) ∷ activation_name (get_or p 4 0) ∷ []), length-hex (be16 (u16_at p 0)), length-hex (be16 (u16_at p 2)), length-hex (get_or p 4 0 ∷ []), activation_short (get_or p 4 0)))
+    (omega (
+      arith,
+      fill-short (spelled "sent routing activation response (0006): tester %, entity %, code %, %")
+          (address (u16_at p 0) ∷ address (u16_at p 2) ∷ code (get_or p 4 0) ∷ activation_name (get_or p 4 0) ∷ []),
+      length-hex (be16 (u16_at p 0)),
+      length-hex (be16 (u16_at p 2)),
+      length-hex (get_or p 4 0 ∷ []),
+      activation_short (get_or p 4 0),
+    ))
     (omega arith)
 
 alive : (p : List ℕ) → length (alive_text p) ≤ most_what
@@ -60,7 +73,14 @@ status p =
     (filled "sent entity status response (4002): places for testers %, rows open %, longest message % bytes" (decimal (get_or p 1 0) ∷ decimal (get_or p 2 0) ∷ decimal (u32_at p 3) ∷ []))
     unreadable
     most_what
-    (omega (arith, fill-short (spelled "sent entity status response (4002): places for testers %, rows open %, longest message % bytes") (decimal (get_or p 1 0) ∷ decimal (get_or p 2 0) ∷ decimal (u32_at p 3) ∷ []), length-decimal (get_or p 1 0), length-decimal (get_or p 2 0), length-decimal (u32_at p 3)))
+    (omega (
+      arith,
+      fill-short (spelled "sent entity status response (4002): places for testers %, rows open %, longest message % bytes")
+          (decimal (get_or p 1 0) ∷ decimal (get_or p 2 0) ∷ decimal (u32_at p 3) ∷ []),
+      length-decimal (get_or p 1 0),
+      length-decimal (get_or p 2 0),
+      length-decimal (u32_at p 3),
+    ))
     (omega arith)
 
 mode : (p : List ℕ) → length (mode_text p) ≤ most_what
@@ -70,7 +90,13 @@ mode p =
     (filled "sent power mode response (4004): %, %" (code (get_or p 0 0) ∷ mode_name (get_or p 0 0) ∷ []))
     unreadable
     most_what
-    (omega (arith, fill-short (spelled "sent power mode response (4004): %, %") (code (get_or p 0 0) ∷ mode_name (get_or p 0 0) ∷ []), length-hex (get_or p 0 0 ∷ []), mode_short (get_or p 0 0)))
+    (omega (
+      arith,
+      fill-short (spelled "sent power mode response (4004): %, %")
+          (code (get_or p 0 0) ∷ mode_name (get_or p 0 0) ∷ []),
+      length-hex (get_or p 0 0 ∷ []),
+      mode_short (get_or p 0 0),
+    ))
     (omega arith)
 
 diagnostic : (p : List ℕ) → length (diagnostic_text p) ≤ most_what
@@ -81,26 +107,51 @@ diagnostic p =
     (filled "sent diagnostic message (8001): from controller % to tester %, user data % bytes" (address (u16_at p 0) ∷ address (u16_at p 2) ∷ decimal (length p - 4) ∷ []))
     most_what
     (omega arith)
-    (omega (arith, fill-short (spelled "sent diagnostic message (8001): from controller % to tester %, user data % bytes") (address (u16_at p 0) ∷ address (u16_at p 2) ∷ decimal (length p - 4) ∷ []), length-hex (be16 (u16_at p 0)), length-hex (be16 (u16_at p 2)), length-decimal (length p - 4)))
+    (omega (
+      arith,
+      fill-short (spelled "sent diagnostic message (8001): from controller % to tester %, user data % bytes")
+          (address (u16_at p 0) ∷ address (u16_at p 2) ∷ decimal (length p - 4) ∷ []),
+      length-hex (be16 (u16_at p 0)),
+      length-hex (be16 (u16_at p 2)),
+      length-decimal (length p - 4),
+    ))
 
 positive : (p : List ℕ) → length (positive_text p) ≤ most_what
 unfolding answered_text total
 positive p =
     pick-short (eqb (length p) 5)
-    (filled "sent diagnostic positive acknowledge (8002): from controller % to tester %, code %, %" (address (u16_at p 0) ∷ address (u16_at p 2) ∷ code (get_or p 4 0) ∷ diagnostic_name (get_or p 4 0) ∷ []))
+    (filled "sent diagnostic positive acknowledge (8002): from controller % to tester %, code %, %"
+    (address (u16_at p 0) ∷ address (u16_at p 2) ∷ code (get_or p 4 0) ∷ diagnostic_name (get_or p 4 0) ∷ []))
     unreadable
     most_what
-    (omega (arith, fill-short (spelled "sent diagnostic positive acknowledge (8002): from controller % to tester %, code %, %") (address (u16_at p 0) ∷ address (u16_at p 2) ∷ code (get_or p 4 0) ∷ diagnostic_name (get_or p 4 0) ∷ []), length-hex (be16 (u16_at p 0)), length-hex (be16 (u16_at p 2)), length-hex (get_or p 4 0 ∷ []), diagnostic-short (get_or p 4 0)))
+    (omega (
+      arith,
+      fill-short (spelled "sent diagnostic positive acknowledge (8002): from controller % to tester %, code %, %")
+          (address (u16_at p 0) ∷ address (u16_at p 2) ∷ code (get_or p 4 0) ∷ diagnostic_name (get_or p 4 0) ∷ []),
+      length-hex (be16 (u16_at p 0)),
+      length-hex (be16 (u16_at p 2)),
+      length-hex (get_or p 4 0 ∷ []),
+      diagnostic-short (get_or p 4 0),
+    ))
     (omega arith)
 
 negative : (p : List ℕ) → length (negative_text p) ≤ most_what
 unfolding answered_text total
 negative p =
     pick-short (eqb (length p) 5)
-    (filled "sent diagnostic negative acknowledge (8003): from controller % to tester %, code %, %" (address (u16_at p 0) ∷ address (u16_at p 2) ∷ code (get_or p 4 0) ∷ diagnostic_name (get_or p 4 0) ∷ []))
+    (filled "sent diagnostic negative acknowledge (8003): from controller % to tester %, code %, %"
+    (address (u16_at p 0) ∷ address (u16_at p 2) ∷ code (get_or p 4 0) ∷ diagnostic_name (get_or p 4 0) ∷ []))
     unreadable
     most_what
-    (omega (arith, fill-short (spelled "sent diagnostic negative acknowledge (8003): from controller % to tester %, code %, %") (address (u16_at p 0) ∷ address (u16_at p 2) ∷ code (get_or p 4 0) ∷ diagnostic_name (get_or p 4 0) ∷ []), length-hex (be16 (u16_at p 0)), length-hex (be16 (u16_at p 2)), length-hex (get_or p 4 0 ∷ []), diagnostic-short (get_or p 4 0)))
+    (omega (
+      arith,
+      fill-short (spelled "sent diagnostic negative acknowledge (8003): from controller % to tester %, code %, %")
+          (address (u16_at p 0) ∷ address (u16_at p 2) ∷ code (get_or p 4 0) ∷ diagnostic_name (get_or p 4 0) ∷ []),
+      length-hex (be16 (u16_at p 0)),
+      length-hex (be16 (u16_at p 2)),
+      length-hex (get_or p 4 0 ∷ []),
+      diagnostic-short (get_or p 4 0),
+    ))
     (omega arith)
 
 handed : (p : List ℕ) → length (handed_text p) ≤ most_what
@@ -111,12 +162,26 @@ handed p =
     (filled "handed on: from tester % to controller %, user data % bytes" (address (u16_at p 0) ∷ address (u16_at p 2) ∷ decimal (length p - 4) ∷ []))
     most_what
     (omega arith)
-    (omega (arith, fill-short (spelled "handed on: from tester % to controller %, user data % bytes") (address (u16_at p 0) ∷ address (u16_at p 2) ∷ decimal (length p - 4) ∷ []), length-hex (be16 (u16_at p 0)), length-hex (be16 (u16_at p 2)), length-decimal (length p - 4)))
+    (omega (
+      arith,
+      fill-short (spelled "handed on: from tester % to controller %, user data % bytes")
+          (address (u16_at p 0) ∷ address (u16_at p 2) ∷ decimal (length p - 4) ∷ []),
+      length-hex (be16 (u16_at p 0)),
+      length-hex (be16 (u16_at p 2)),
+      length-decimal (length p - 4),
+    ))
 
 payload : (k : ℕ) (p : List ℕ) → length (payload_text k p) ≤ most_what
 unfolding payload_text
 payload k p =
-    (pick-short (eqb k 0x0000) _ _ most_what (nack p) (pick-short (eqb k 0x0006) _ _ most_what (activation p) (pick-short (eqb k 0x0007) _ _ most_what (alive p) (pick-short (eqb k 0x4002) _ _ most_what (status p) (pick-short (eqb k 0x4004) _ _ most_what (mode p) (pick-short (eqb k 0x8001) _ _ most_what (diagnostic p) (pick-short (eqb k 0x8002) _ _ most_what (positive p) (pick-short (eqb k 0x8003) _ _ most_what (negative p) (omega arith)))))))))
+    (pick-short (eqb k 0x0000) _ _ most_what (nack p)
+    (pick-short (eqb k 0x0006) _ _ most_what (activation p)
+    (pick-short (eqb k 0x0007) _ _ most_what (alive p)
+    (pick-short (eqb k 0x4002) _ _ most_what (status p)
+    (pick-short (eqb k 0x4004) _ _ most_what (mode p)
+    (pick-short (eqb k 0x8001) _ _ most_what (diagnostic p)
+    (pick-short (eqb k 0x8002) _ _ most_what (positive p)
+    (pick-short (eqb k 0x8003) _ _ most_what (negative p) (omega arith)))))))))
 
 message : (b : List ℕ) → length (message_text b) ≤ most_what
 unfolding message_text

@@ -1,7 +1,7 @@
 -- What the sentences about messages and entries say, in words.
 -- Assumes nothing.
 use mathlib.Core.Path.{◌≡◌, refl, ap, ◌∙◌}
-use mathlib.Core.List.{List, [], ◌∷◌, ◌++◌}
+use mathlib.Core.List.{List, [], ◌∷◌}
 use Prim.Native.Nat.{ℕ}
 use Rattle.lines.specs.Text.{decimal}
 use Rattle.words.specs.Said.{spelled}
@@ -20,7 +20,9 @@ odd_says = says_0 39 "sent a message that can not be read" refl refl
 pub nack-says : (c k : ℕ) → phrase k ≡ fault_name c → sentence_text (sentence 30 (Code c) (Phrase k) Blank)
     ≡ filled "sent header negative acknowledge (0000): code %, %" (code c ∷ fault_name c ∷ [])
 unfolding phrase book
-nack-says c k e = says_2 30 "sent header negative acknowledge (0000): code %, %" (Code c) (Phrase k) refl ∙ ap (λ (x : List ℕ). filled "sent header negative acknowledge (0000): code %, %" (code c ∷ x ∷ [])) e
+nack-says c k e =
+    says_2 30 "sent header negative acknowledge (0000): code %, %" (Code c) (Phrase k) refl
+    ∙ ap (λ (x : List ℕ). filled "sent header negative acknowledge (0000): code %, %" (code c ∷ x ∷ [])) e
 
 pub activation_says : (t e c k : ℕ) → phrase k ≡ activation_name c
     → sentence_text (record { phrase = 32; a = Address t; b = Address e; c = Code c; d = Phrase k })

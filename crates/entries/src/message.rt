@@ -3,7 +3,8 @@ ghost use Rattle.std.specs.Prelude.{◌≡◌, length};
 ghost use Rattle.words.specs.Book.{phrase};
 ghost use Rattle.words.specs.Said.{Said};
 ghost use Rattle.words.specs.Sentence.{sentence_text};
-ghost use Rattle.entries.specs.Messages.{unreadable, nack_text, activation_text, alive_text, status_text, mode_text, diagnostic_text, answered_text, payload_text, message_text, is_identity, identity_text, handed_text};
+ghost use Rattle.entries.specs.Messages.{unreadable, nack_text, activation_text, alive_text, status_text, mode_text, diagnostic_text};
+ghost use Rattle.entries.specs.Messages.{answered_text, payload_text, message_text, is_identity, identity_text, handed_text};
 
 use words::fill::{Arg, Sentence, with};
 use words::{book, fill, names, put};

@@ -1,13 +1,13 @@
 -- What the sentences of headings and closing lines say, in words.
 -- Assumes nothing.
 use mathlib.Core.Path.{◌≡◌, refl, ap, ◌∙◌}
-use mathlib.Core.List.{List, [], ◌∷◌, ◌++◌}
+use mathlib.Core.List.{List, [], ◌∷◌}
 use Prim.Native.Nat.{ℕ}
 use Rattle.lines.specs.Text.{decimal}
 use Rattle.words.specs.Said.{spelled}
-use Rattle.words.specs.Book.{phrase, book, fill}
+use Rattle.words.specs.Book.{phrase, book}
 use Rattle.words.specs.Sentence.{filled, address, sentence, sentence_text}
-use Rattle.words.specs.declared.fill.Arg.TheVariants.{Blank, Number, Address, Code, Phrase}
+use Rattle.words.specs.declared.fill.Arg.TheVariants.{Blank, Number, Address, Phrase}
 use Rattle.words.proofs.FillLaws.{holes}
 use Rattle.words.specs.Names.{refusal_name}
 use Rattle.words.proofs.SentenceLaws.{says_0, says_1, says_2, says_3}

@@ -1,7 +1,7 @@
 -- The headings and the closing lines are short.
 -- Assumes nothing.
 use mathlib.Core.List.{List, [], ◌∷◌, ◌++◌}
-use Prim.Native.Nat.{ℕ, ◌+◌, ◌≤◌}
+use Prim.Native.Nat.{ℕ, ◌≤◌}
 use native.Mathlib.Omega.{arith}
 use lib.Dec.{eqb}
 use lib.ListN.{length, length-append}
@@ -10,7 +10,7 @@ use Rattle.lines.specs.declared.Ending.{Ending}
 use Rattle.lines.specs.declared.Ending.TheVariants.{End, Cut, Bad}
 use Rattle.day.specs.declared.records.Call.{Call}
 use Rattle.day.specs.declared.records.Call.TheVariants.{Start, Connect, Bytes, Closed, Lost, Tick, Datagram, Controller}
-use Rattle.lines.specs.Text.{decimal, hex}
+use Rattle.lines.specs.Text.{decimal}
 use Rattle.lines.proofs.TextLaws.{length-decimal, length-hex}
 use Rattle.words.specs.Said.{spelled}
 use Rattle.words.specs.Sentence.{address}

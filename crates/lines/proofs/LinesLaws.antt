@@ -10,7 +10,8 @@ use Rattle.octets.specs.Choice.{pick}
 use Rattle.lines.specs.declared.Ending.{Ending}
 use Rattle.lines.specs.declared.Ending.TheVariants.{End, Cut, Bad}
 use Rattle.lines.specs.Text.{decimal, hex}
-use Rattle.lines.specs.Lines.{blank, newline, counts_text, sheet_text, answer_line, farm_word, taken_word, finished_word, lost_word, farm_line, last_word, last_line, most_counts, most_farm_line, most_last_line}
+use Rattle.lines.specs.Lines.{blank, newline, farm_word, taken_word, finished_word, lost_word, last_word}
+use Rattle.lines.specs.Lines.{counts_text, sheet_text, answer_line, farm_line, last_line, most_counts, most_farm_line, most_last_line}
 use Rattle.lines.proofs.TextLaws.{length-decimal, length-hex}
 
 pub length-counts : (number row taken : ℕ) → length (counts_text number row taken) ≤ most_counts

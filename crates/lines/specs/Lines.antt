@@ -1,6 +1,6 @@
 -- The lines of the format of recorded calls, as characters.
 -- Assumes nothing: these are definitions.
-use Rattle.std.specs.Prelude.{ℕ, ◌+◌, List, [], ◌∷◌, ◌++◌, eqb}
+use Rattle.std.specs.Prelude.{ℕ, List, [], ◌∷◌, ◌++◌, eqb}
 use Rattle.octets.specs.Choice.{pick}
 use Rattle.lines.specs.declared.Ending.{Ending}
 use Rattle.lines.specs.declared.Ending.TheVariants.{End, Cut, Bad}

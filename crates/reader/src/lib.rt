@@ -1,6 +1,6 @@
 // The farm sheet is walked by a reader: the lent bytes, and the position at which it stands. It goes from section to section, so
-// each begins where the one before it ends. The functions over it are thin, because the prover's borrow checker covers none that
-// has a reader in it and each is proved by hand. What is asked of a section's records stands in sheet_records, over plain parameters.
+// each begins where the one before it ends. The functions over it are thin, and each is proved from the contracts alone: no proof
+// stands here. What is asked of a section's records stands in sheet_records, over plain parameters.
 #![tactic(auto)]
 
 ghost use Rattle.std.specs.Prelude.{◌≡◌, ◌+◌, ◌*◌, ◌≤◌, ◌<◌, ◌^◌, length};

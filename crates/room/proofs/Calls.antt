@@ -10,8 +10,6 @@ use lib.ListN.{length, length-append, length-map, length-set, set, take}
 use Rattle.octets.specs.Search.{count_if}
 use Rattle.kinds.specs.declared.Fault.{Fault}
 use Rattle.kinds.specs.declared.Request.{Request}
-use Rattle.kinds.specs.declared.RowState.{RowState}
-use Rattle.kinds.specs.declared.RowState.TheVariants.{Free, Fresh, Waiting, Active}
 use Rattle.kinds.specs.declared.Row.{Row}
 use Rattle.kinds.specs.declared.Item.{Item}
 use Rattle.kinds.specs.declared.Decision.{Decision}
@@ -20,7 +18,7 @@ use Rattle.payload.specs.declared.Ends.{Ends as Parties}
 use Rattle.wire.specs.Header.{closes}
 use Rattle.payload.specs.Payload.{request_in, address_in, ends_in}
 use Rattle.model.specs.FarmSheet.{FarmSheet, TargetIs, stranger, unreachable, reachable}
-use Rattle.model.specs.Row.{waiting_row, row_at, is_open_state, is_open, active_as, older_state, older, at_limit}
+use Rattle.model.specs.Row.{waiting_row, row_at, is_open, active_as, older, at_limit}
 use Rattle.model.specs.Stream.{Event, input_ended, wrong, finished, skipped, Taken}
 use Rattle.model.specs.Farm.{Farm, with_row, with_line, with_marks, Done, does, quietly, and_then, closed, closed_where}
 use Rattle.model.specs.Line.{accepted, started, advanced, answered, settle_line, settle, is_empty, joined, without, left_by, left, marked, answers_check, cleared, decide}

@@ -1,9 +1,8 @@
 -- What is said is short.
 -- Assumes nothing.
-use mathlib.Core.Path.{◌≡◌, refl}
 use mathlib.Core.Bool.{Bool, true, false}
 use mathlib.Core.List.{List, [], ◌∷◌, ◌++◌}
-use Prim.Native.Nat.{ℕ, zero, suc, ◌+◌, ◌≤◌}
+use Prim.Native.Nat.{ℕ, suc, ◌+◌, ◌≤◌}
 use Prim.Native.String.{String}
 use native.Mathlib.Omega.{arith}
 use lib.Dec.{T, eqb, leb, leb→le}
@@ -11,7 +10,6 @@ use lib.ListN.{length, get_or, drop, length-append}
 use Rattle.octets.specs.Choice.{pick}
 use Rattle.words.specs.Said.{spelled}
 use Rattle.words.specs.Book.{fill}
-use Rattle.words.specs.Sentence.{filled}
 use Rattle.words.specs.Names.{Line, name_in, refusals, refusal_name, faults, fault_name, activations, activation_name, diagnostics, diagnostic_name, modes, mode_name}
 
 -- the longer of two texts is no longer than this

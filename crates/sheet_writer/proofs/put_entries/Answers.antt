@@ -2,7 +2,7 @@
 -- Assumes nothing.
 use mathlib.Core.Path.{◌≡◌, refl, sym, ap, ◌∙◌}
 use mathlib.Core.List.{List}
-use Prim.Native.Nat.{ℕ, ◌+◌, ◌*◌, ◌-◌, ◌≤◌, ◌<◌}
+use Prim.Native.Nat.{ℕ, ◌+◌, ◌*◌, ◌<◌}
 use native.Mathlib.Omega.{arith}
 use lib.ListN.{length, get_or, length-map, get_or-map}
 use Rattle.octets.specs.Put.{put_at}
@@ -10,33 +10,25 @@ use Rattle.kinds.specs.declared.Item.{Item}
 use Rattle.outsheet.specs.Sheet.{Entry, entry_bytes}
 use Rattle.outsheet.specs.Replies.{entry_of, entries_of}
 use Rattle.plan.specs.Plan.{item_at, items_of, no_item}
-use Rattle.outsheet.specs.Contracts.{least_output}
 use Rattle.plan.proofs.PlanLaws.{items_few, item_said}
 use Rattle.outsheet.proofs.SheetLaws.{none_laid, first-place, all_laid, next_place, turn_fits, entry-fits, turn}
 use Rattle.sheet_writer.proofs.put_entries.Goals as goal
 
-abbrev entries : tie.Start invariant-loop decreases-loop → List Entry
-entries s = entries_of s.args.long.now (items_of s.args.p.now)
+abbrev entries : List ℕ → List ℕ → List Entry
+entries long p = entries_of long (items_of p)
 
 -- what stands past the last entry
-abbrev past : tie.Start invariant-loop decreases-loop → Entry
-past s = entry_of s.args.long.now no_item
+abbrev past : List ℕ → Entry
+past long = entry_of long no_item
 
 -- the entry that the item at i says
-told : (s : tie.Start invariant-loop decreases-loop) (i : ℕ) (it : Item) → i < length (entries s) → it ≡ item_at s.args.p.now i
-    → entry_of s.args.long.now it ≡ get_or (entries s) i (past s)
-told s i it h e =
-    let entry = entry_of s.args.long.now in
-    let items = items_of s.args.p.now in
-    let said = item_said s.args.p.now i (omega (arith, h, length-map items entry)) in
+told : (long p : List ℕ) (i : ℕ) (it : Item) → i < length (entries long p) → it ≡ item_at p i
+    → entry_of long it ≡ get_or (entries long p) i (past long)
+told long p i it h e =
+    let entry = entry_of long in
+    let items = items_of p in
+    let said = item_said p i (omega (arith, h, length-map items entry)) in
     ap entry (e ∙ sym said) ∙ sym (get_or-map entry items i no_item)
-
--- in a turn the entry starts within the least output
-starts : (c : tie.In-loop invariant-loop decreases-loop) → c.before.loop.at ≤ least_output
-starts c =
-    let s = c.before.before.before.before.before.before in
-    let l = c.before.loop in
-    omega (arith, l.invariant.2, turn_fits (entries s) l.i (past s) (omega (arith, l.invariant.0, c.loop-test.true)), s.requires.short)
 
 pub count-n-requires : goal.count-n-requires
 count-n-requires c = c.requires.ok
@@ -49,12 +41,16 @@ overflow_add-at c = omega (arith, items_few c.args.p.now, c.count-n.ensures)
 
 pub loop-i-init : goal.loop-i-init
 loop-i-init c =
-    let es = entries c in
+    let es = entries c.args.long.now c.args.p.now in
     let n : c.count-n.result ≡ length es = c.count-n.ensures ∙ sym (length-map (items_of c.args.p.now) (entry_of c.args.long.now)) in
     (n, omega arith, ap (λ (k : ℕ). 4 + 2 * k) n ∙ sym (first-place es), none_laid es c.args.out.now, refl)
 
 pub overflow_cast-at : goal.overflow_cast-at
-overflow_cast-at c = omega (arith, starts c)
+overflow_cast-at c =
+    let l = c.loop-i in
+    let es = entries c.args.long.now c.args.p.now in
+    let h = turn_fits es l.i (past c.args.long.now) (omega (arith, l.invariant.0, c.loop-i-test.true)) in
+    omega (arith, l.invariant.2, h, c.requires.short)
 
 pub write16-requires : goal.write16-requires
 write16-requires c = omega (arith, c.requires.short, c.requires.wide, c.loop-i.invariant.0, c.loop-i.invariant.4)
@@ -68,22 +64,22 @@ item_at-it-requires c =
 pub put_entry-at-requires : goal.put_entry-at-requires
 put_entry-at-requires c =
     let l = c.loop-i in
-    let more : l.i < length (entries c) = omega (arith, l.invariant.0, c.loop-i-test.true) in
-    entry-fits (entries c) l.i (past c) more _ l.at _ c.requires.short (omega (arith, c.requires.wide, c.write16.auto.out, l.invariant.4)) l.invariant.2 (told c l.i _ more c.item_at-it.ensures)
+    let more : l.i < length (entries c.args.long.now c.args.p.now) = omega (arith, l.invariant.0, c.loop-i-test.true) in
+    entry-fits (entries c.args.long.now c.args.p.now) l.i (past c.args.long.now) more _ l.at _ c.requires.short (omega (arith, c.requires.wide, c.write16.auto.out, l.invariant.4)) l.invariant.2 (told c.args.long.now c.args.p.now l.i _ more c.item_at-it.ensures)
 
 pub loop-i-preserved : goal.loop-i-preserved
 loop-i-preserved c =
     let a = c.args in
     let l = c.loop-i in
-    let es = entries c in
+    let es = entries c.args.long.now c.args.p.now in
     let put = c.put_entry-at in
     let write = c.write16 in
     let more : l.i < length es = omega (arith, l.invariant.0, c.loop-i-test.true) in
-    let e = told c l.i _ more c.item_at-it.ensures in (
+    let e = told c.args.long.now c.args.p.now l.i _ more c.item_at-it.ensures in (
       l.invariant.0,
       omega (arith, c.loop-i-test.true),
-      omega (arith, put.ensures.place, l.invariant.2, ap (λ (x : Entry). length x.bytes) e, next_place es l.i (past c) more),
-      turn es l.i (past c) more a.out.now l.out write.new.out _ l.at (omega (arith, c.requires.short, c.requires.wide)) l.invariant.2 l.invariant.3 write.ensures
+      omega (arith, put.ensures.place, l.invariant.2, ap (λ (x : Entry). length x.bytes) e, next_place es l.i (past c.args.long.now) more),
+      turn es l.i (past c.args.long.now) more a.out.now l.out write.new.out _ l.at (omega (arith, c.requires.short, c.requires.wide)) l.invariant.2 l.invariant.3 write.ensures
           (put.ensures.bytes ∙ ap (λ (x : Entry). put_at write.new.out l.at (entry_bytes x)) e),
       put.auto.out ∙ write.auto.out ∙ l.invariant.4,
     )
@@ -94,4 +90,4 @@ shape_of-out c = c.loop-i.invariant.4
 pub returns : goal.returns
 returns c =
     let l = c.loop-i in
-    all_laid (entries c) c.args.out.now l.out l.at l.i (omega (arith, l.invariant.0, l.invariant.1, c.loop-i-test.false)) l.invariant.2 l.invariant.3
+    all_laid (entries c.args.long.now c.args.p.now) c.args.out.now l.out l.at l.i (omega (arith, l.invariant.0, l.invariant.1, c.loop-i-test.false)) l.invariant.2 l.invariant.3

@@ -1,0 +1,7 @@
+-- `closing::put_last` meets its contract.
+-- Assumes nothing.
+use Rattle.words.proofs.SaidLaws.{said-is, said_more}
+use Rattle.explain.proofs.closing.put_last.Goals as goal
+
+pub returns : goal.returns
+returns c = said_more (said-is c.last.ensures c.say-p.ensures) c.words.ensures
