@@ -1,8 +1,8 @@
 -- A plan's sheet has room where its call is short of entries.
 -- Assumes nothing.
 use Prim.Native.Nat.{ℕ, ◌≤◌}
-use mathlib.Core.Path.{◌≡◌, sym, ap, subst}
-use mathlib.Core.List.{List, [], ◌∷◌}
+use mathlib.Core.Path.{◌≡◌, ap, subst}
+use mathlib.Core.List.{List, []}
 use native.Mathlib.Omega.{arith}
 use Rattle.kinds.specs.declared.Item.{Item}
 use Rattle.octets.specs.Search.{count_if}

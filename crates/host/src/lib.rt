@@ -1,3 +1,2 @@
 // Laws alone: the promises, of the calls that run.
 #![tactic(auto)]
-

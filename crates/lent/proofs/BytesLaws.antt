@@ -1,9 +1,8 @@
 -- The bytes of the table and of the rooms that the lent memory means are the lent bytes themselves.
 -- Assumes nothing.
 use Prim.Native.Nat.{ℕ, zero, suc, ◌+◌, ◌*◌, ◌-◌, ◌≤◌, ◌<◌}
-use mathlib.Core.Path.{◌≡◌, refl, sym, ap, ap₂, ◌∙◌, subst}
-use mathlib.Core.Bool.{Bool, true, false}
-use mathlib.Core.List.{List, [], ◌∷◌, ◌++◌, map}
+use mathlib.Core.Path.{◌≡◌, refl, sym, ap, ap₂, ◌∙◌}
+use mathlib.Core.List.{List, [], ◌++◌, map}
 use mathlib.Core.Logic.{⊎_elim}
 use native.Mathlib.Omega.{arith}
 use lib.ListN.{length, take, drop, take-append-drop}
@@ -12,16 +11,15 @@ use Rattle.octets.specs.Parts.{part, parts, joined}
 use Rattle.octets.specs.Put.{put_at}
 use Rattle.octets.proofs.PartsLaws.{part_join, parts_join}
 use Rattle.octets.proofs.PutLaws.{put_start}
-use Rattle.octets.proofs.SearchLaws.{same_right, same_says}
+use Rattle.octets.proofs.SearchLaws.{same_says}
 use Rattle.octets.specs.Says.{Says}
 use Rattle.sheet.specs.Sheet.{most_farms, farm_count}
 use Rattle.sheet.specs.Rows.{first_row, rows_owned, rows_in}
 use Rattle.sheet.specs.Rules.{GoodSheet}
-use Rattle.sheet.specs.Test.{every_below}
 use Rattle.sheet.proofs.Order.{le_or_lt}
 use Rattle.sheet.proofs.TestLaws.{below-says}
 use Rattle.sheet.proofs.RowsLaws.{rows_mono, rows_few}
-use Rattle.model.specs.FarmSheet.{FarmSheet, farm_sheet, no_farm, slot_sheet}
+use Rattle.model.specs.FarmSheet.{FarmSheet, farm_sheet, no_farm}
 use Rattle.model.specs.Move.{Held}
 use Rattle.model.specs.Table.{assembling_size}
 use Rattle.table.specs.Layout.{block_size, table_size}

@@ -15,7 +15,7 @@ use Rattle.lent.specs.declared.Answer.{Answer}
 use Rattle.lent.specs.Lent.{lent_table, lent_step, lent_start}
 use Rattle.lent.specs.Gate.{start_number, gate_number, Lendable}
 use Rattle.lent.specs.Served.{refusal, done, Memory, memory, Served}
-use Rattle.lent.proofs.GateLaws.{started, gate_refuses, start_refuses, start_passes, starts}
+use Rattle.lent.proofs.GateLaws.{started, gate_refuses, start_refuses, starts}
 use Rattle.lent.proofs.ServedLaws.{served-refused, Left, served-did}
 use Rattle.lent.proofs.ZeroLaws.{zero-whole, zero-means}
 

@@ -1,23 +1,20 @@
 -- Refusals 1 to 4 are the model's; a call that goes on has what they test.
 -- Assumes nothing.
-use Prim.Native.Nat.{ℕ, zero, suc, ◌+◌, ◌≤◌, ◌<◌}
-use mathlib.Core.Path.{◌≡◌, refl, sym, ap, ap₂, ◌∙◌, subst}
+use Prim.Native.Nat.{ℕ, suc, ◌≤◌, ◌<◌}
+use mathlib.Core.Path.{◌≡◌, refl, ap}
 use mathlib.Core.Bool.{Bool, true, false}
-use mathlib.Core.List.{List, [], ◌∷◌}
+use mathlib.Core.List.{List, []}
 use native.Mathlib.Omega.{arith}
 use lib.Dec.{eqb, leb}
 use lib.ListN.{length}
 use borrow.Author.Tests.{lt-leb, le-leb, eq-eqb, ne_eqb}
 use Rattle.octets.specs.Choice.{both, unless}
-use Rattle.octets.specs.Says.{Says}
-use Rattle.octets.proofs.SaysLaws.{never}
-use Rattle.octets.proofs.ChoiceLaws.{both_left, both_right, says_le, says_eq}
-use Rattle.sheet.specs.Rules.{GoodSheet}
+use Rattle.octets.proofs.ChoiceLaws.{says_le, says_eq}
 use Rattle.sheet.specs.Test.{good_sheet}
 use Rattle.sheet.proofs.TestLaws.{good-says}
-use Rattle.model.specs.Table.{least_output, assembling_size, good_table, Call, Table, Did, Outcome, refuses, did, if_lent, whose, called, step, renewed, start_step}
+use Rattle.model.specs.Table.{least_output, assembling_size, good_table, Call, Table, Did, Outcome, refuses, did, whose, called, step, renewed, start_step}
 use Rattle.model.specs.Move.{no_row}
-use Rattle.lent.specs.Lent.{whole_table, lent_table, lent_of, lent_step, lent_start}
+use Rattle.lent.specs.Lent.{whole_table, lent_table, lent_step, lent_start}
 use Rattle.lent.specs.Gate.{start_number, gate_number, Lendable, Passed}
 
 -- what a start does

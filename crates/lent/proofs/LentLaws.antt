@@ -1,13 +1,11 @@
 -- What a change of one block, or of one room, is to the table that the lent memory means.
 -- Assumes nothing.
-use Prim.Native.Nat.{ℕ, zero, suc, ◌+◌, ◌*◌, ◌≤◌, ◌<◌}
-use mathlib.Core.Path.{◌≡◌, refl, sym, ap, ap₂, ◌∙◌, subst}
-use mathlib.Core.Bool.{true, false}
-use mathlib.Core.List.{List, [], ◌∷◌, ◌++◌}
+use Prim.Native.Nat.{ℕ, suc, ◌+◌, ◌*◌, ◌≤◌, ◌<◌}
+use mathlib.Core.Path.{◌≡◌, sym, ap, ◌∙◌}
+use mathlib.Core.List.{List}
 use mathlib.Core.Logic.{⊎_elim}
 use native.Mathlib.Omega.{arith}
-use lib.Dec.{ltb}
-use lib.ListN.{length, get_or, set}
+use lib.ListN.{length, set}
 use borrow.Author.Tests.{lt-ltb, le-ltb}
 use Rattle.octets.specs.Choice.{pick}
 use Rattle.octets.specs.Parts.{part, parts}
@@ -19,11 +17,10 @@ use Rattle.sheet.specs.Rules.{GoodSheet}
 use Rattle.sheet.proofs.Order.{le_or_lt}
 use Rattle.sheet.proofs.RowsLaws.{rows_mono, rows_few, rows-within}
 use Rattle.model.specs.FarmSheet.{FarmSheet, farm_sheet, no_farm, slot_sheet}
-use Rattle.model.specs.Move.{Held}
-use Rattle.model.specs.Table.{Table, no_held, slot, assembling_size}
+use Rattle.model.specs.Table.{no_held, slot, assembling_size}
 use Rattle.table.specs.Layout.{block_size, table_size}
 use Rattle.table.specs.Block.{farm_of}
-use Rattle.lent.specs.Lent.{block, room_size, rooms_of, held_at, slots_from, lent_table}
+use Rattle.lent.specs.Lent.{block, room_size, rooms_of, held_at, lent_table}
 use Rattle.lent.proofs.SlotLaws.{slots_length, slot_at, slot-put}
 
 -- ---- slots

@@ -1,27 +1,26 @@
 -- One farm moved: its block means its new farm, and nothing else of the table changed.
 -- Assumes nothing.
-use Prim.Native.Nat.{ℕ, ◌+◌, ◌-◌, ◌*◌, ◌≤◌, ◌<◌}
+use Prim.Native.Nat.{ℕ, ◌+◌, ◌-◌, ◌*◌, ◌<◌}
 use mathlib.Core.Path.{◌≡◌, refl, sym, ap, ◌∙◌, subst}
 use mathlib.Core.Bool.{Bool, true, false}
-use mathlib.Core.List.{List, [], ◌++◌}
+use mathlib.Core.List.{List, ◌++◌}
 use mathlib.Core.Logic.{◌⊎◌, inl, inr, ⊎_elim}
 use native.Mathlib.Omega.{arith}
 use lib.Dec.{eqb}
 use lib.ListN.{length, take, drop, set}
-use Rattle.octets.specs.Parts.{part}
 use Rattle.octets.specs.Put.{put_at}
-use Rattle.octets.proofs.PartsLaws.{mid_put, length_part}
+use Rattle.octets.proofs.PartsLaws.{mid_put}
 use Rattle.octets.proofs.PutLaws.{length-put_at}
 use Rattle.octets.proofs.SaysLaws.{never}
 use Rattle.octets.proofs.ChoiceLaws.{says_eq}
 use Rattle.sheet.specs.Sheet.{most_farms}
 use Rattle.model.specs.Farm.{Farm}
 use Rattle.model.specs.Move.{Held}
-use Rattle.model.specs.Table.{Table, slot}
+use Rattle.model.specs.Table.{slot}
 use Rattle.table.specs.Layout.{block_size, table_size}
-use Rattle.table.specs.Block.{farm_of, image, Whole, Holds}
+use Rattle.table.specs.Block.{farm_of, image, Holds}
 use Rattle.table.proofs.BlockLaws.{exact}
-use Rattle.lent.specs.Lent.{block, Only, whole_table, held_at, lent_table}
+use Rattle.lent.specs.Lent.{block, Only, whole_table, lent_table}
 use Rattle.lent.proofs.LentLaws.{block_own, block_other, table-put, slot_is}
 use Rattle.lent.proofs.BytesLaws.{Exact, whole_exact}
 

@@ -1,17 +1,15 @@
 -- A table of zero bytes is a new one: "A new table holds all rows free and all meters 0."
 -- Assumes nothing.
-use Prim.Native.Nat.{ℕ, zero, suc, ◌+◌, ◌*◌, ◌-◌, ◌≤◌, ◌<◌}
+use Prim.Native.Nat.{ℕ, zero, suc, ◌+◌, ◌*◌, ◌≤◌, ◌<◌}
 use mathlib.Core.Path.{◌≡◌, refl, sym, ap, ap₂, ◌∙◌}
 use mathlib.Core.Bool.{true}
-use mathlib.Core.List.{List, [], ◌∷◌, ◌++◌, map}
+use mathlib.Core.List.{List, [], ◌∷◌, ◌++◌}
 use native.Mathlib.Omega.{arith}
-use lib.ListN.{length, take, drop, set, replicate, length-set, length-replicate, replicate-append-replicate, get_or-replicate}
-use lib.Seq.{take-suc-set, take_all, ext_get_or, get_or-drop, get_or-take, length-take-le}
-use Rattle.octets.specs.Parts.{part}
+use lib.ListN.{length, take, set, replicate, length-set, length-replicate, replicate-append-replicate, get_or-replicate}
+use lib.Seq.{take-suc-set, take_all, ext_get_or}
 use Rattle.octets.proofs.PartsLaws.{length_part, get_d_part}
 use Rattle.sheet.specs.Sheet.{most_farms}
 use Rattle.model.specs.Farm.{Farm, new_farm}
-use Rattle.model.specs.Move.{Held}
 use Rattle.model.specs.Table.{Table, renewed}
 use Rattle.table.specs.Layout.{block_size, table_size}
 use Rattle.table.specs.Block.{farm_of, image}

@@ -1,6 +1,6 @@
 -- What the lent memory means: four blocks and a room for each row are the model's table.
 -- Assumes nothing: these are definitions.
-use Rattle.std.specs.Prelude.{ℕ, zero, suc, ◌*◌, ◌≡◌, Bool, List, [], ◌∷◌, ◌++◌, map, length}
+use Rattle.std.specs.Prelude.{ℕ, zero, suc, ◌*◌, ◌≡◌, Bool, List, [], ◌∷◌, map, length}
 use Rattle.octets.specs.Choice.{unless}
 use Rattle.octets.specs.Parts.{part, parts, joined}
 use Rattle.octets.specs.Put.{put_at}

@@ -1,7 +1,6 @@
 // The answer of a call. What the lent memory means stands in specs/.
 #![tactic(auto)]
 
-
 // "A refusal returns its number, output length 0, bytes taken 0, row 255."; "Answer 0 is done; its row is the opened one for connect, else
 // 255."
 #[repr(C)]

@@ -14,3 +14,9 @@ find_target-found-requires c = (good_lengths _ c.requires).whole
 pub returns-in_default : goal.returns-in_default
 unfolding farm_sheet
 returns-in_default c = sym (ap (λ (x : Found). is_target (target_by c.args.f.0 x)) (sym c.find_target-found.ensures ∙ c.in_default.is))
+
+pub returns : goal.returns
+unfolding farm_sheet
+returns c =
+    let f = c.args.f.0 in
+    target_known f c.in-Is.target ∙ sym (ap (λ (x : Found). is_target (target_by f x)) (sym c.find_target-found.ensures ∙ c.in-Is.is))
