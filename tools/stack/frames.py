@@ -1,7 +1,7 @@
 #!/usr/bin/env python3
 """Adds up the stack frames in the archive: for each exported function the most stack that any path of calls could take.
 
-    frames.py [ARCHIVE]         target/staticlib/libdokrawin.a if none is given
+    frames.py [ARCHIVE]         crates/dokrawin/out/libdokrawin.a if none is given
 
 tools/stack/measure sees only what its calls touch; this reads the machine code (with llvm-objdump), so it holds for every input, and
 may be more than any input needs. A function that calls itself again, by any way, is counted TURNS times: the settling of a line goes on
@@ -82,7 +82,7 @@ def deepest(found, name, path=()):
 
 
 def main(words):
-    archive = words[0] if words else os.path.join(ROOT, "target", "staticlib", "libdokrawin.a")
+    archive = words[0] if words else os.path.join(ROOT, "crates", "dokrawin", "out", "libdokrawin.a")
     found = functions(archive)
     if not any(name.startswith("dokrawin_") for name in found):
         raise SystemExit(f"frames.py: there is no function of the core in {archive}")

@@ -8,4 +8,4 @@ use Rattle.replay.specs.declared.dayfile.Fill.TheVariants.{More, End, Failed}
 abbrev pub Inside : Fill → ℕ → Type 0
 Inside (More k) n = k ≤ n
 Inside End n = Unit {0}
-Inside Failed n = Unit {0}
+Inside (Failed _) n = Unit {0}

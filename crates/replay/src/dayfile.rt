@@ -1,5 +1,5 @@
 // The day's file, read in pieces: each whole record among the bytes in hand is carried out, and the rest moved to the front.
-ghost use Rattle.std.specs.Prelude.{◌≡◌, ◌≤◌, length};
+ghost use Rattle.std.specs.Prelude.{◌≡◌, ◌+◌, ◌≤◌, IfOk, length};
 ghost use Rattle.replay.specs.Reads.{Inside};
 ghost use Rattle.rig.specs.Kept.{Kept};
 ghost use Rattle.say.specs.Spaces.{space_size, text_size};
@@ -9,19 +9,22 @@ use day::{places, records};
 use lines::Ending;
 use rig::Run;
 use say::ending;
+use say::fault::fail;
+use std::io;
+use std::io::Read;
 use table::TABLE;
 
 // What a read gives.
-#[derive(Drop)]
+#[derive(Clone, Copy)]
 pub enum Fill {
     // So many bytes are in hand now.
     More(usize),
     End,
-    Failed,
+    Failed(io::Error),
 }
 
 // How the walk over the bytes in hand stands.
-#[derive(Drop)]
+#[derive(Clone, Copy)]
 pub enum Stand {
     Going,
     // The record at the place is not all there.
@@ -30,7 +33,7 @@ pub enum Stand {
 }
 
 // The place among the bytes in hand, and what is kept.
-#[derive(Drop)]
+#[derive(Clone, Copy)]
 pub struct Walk {
     pub at: usize,
     pub stand: Stand,
@@ -38,7 +41,7 @@ pub struct Walk {
 }
 
 // What is known between two reads: the file's byte at which the bytes in hand begin, and how many they are.
-#[derive(Drop)]
+#[derive(Clone, Copy)]
 pub struct Turn {
     pub base: usize,
     pub have: usize,
@@ -46,30 +49,28 @@ pub struct Turn {
     pub run: Run,
 }
 
-fn read_at(fd: i32, buf: &mut [u8], have: usize) -> isize
+fn read_at<F: Read>(file: &mut F, buf: &mut [u8], have: usize) -> io::Result<usize>
     requires { have ≤ length buf.old }
+    ensures { IfOk result (λ n. have + n ≤ length buf.old) }
 {
-    libc::read(fd, &mut buf[have..])
+    file.read(&mut buf[have..])
 }
 
 // One read into what is free after the bytes in hand.
-fn refill(fd: i32, buf: &mut [u8], have: usize) -> Fill
+fn refill<F: Read>(file: &mut F, buf: &mut [u8], have: usize) -> Fill
     requires { have ≤ length buf.old }
     ensures { Inside result (length buf.old) }
 {
-    let n = read_at(fd, buf, have);
-    if n < 0 {
-        return Fill::Failed;
+    match read_at(file, buf, have) {
+        Ok(0) => Fill::End,
+        Ok(got) => Fill::More(have + got),
+        Err(e) => Fill::Failed(e),
     }
-    if n == 0 {
-        return Fill::End;
-    }
-    let got = io::count(n, &buf[have..]);
-    Fill::More(have + got)
 }
 
 // One record.
-fn step(
+fn step<R: Print + Eprint>(
+    rt: &R,
     s: &[u8],
     w: Walk,
     sheet: &mut [u8],
@@ -86,7 +87,7 @@ fn step(
     let n = records::next_at(s, at);
     match n {
         Next::Whole { record, rest, next } => {
-            let r = rig::carry_out(record, &s[rest..next], run, sheet, t, out, m, text);
+            let r = rig::carry_out(rt, record, &s[rest..next], run, sheet, t, out, m, text);
             Walk {
                 at: next,
                 stand: Stand::Going,
@@ -115,7 +116,8 @@ fn is_going(s: Stand) -> bool {
 }
 
 // Each whole record among the bytes in hand. No record is empty, so there are fewer than bytes.
-fn walk_all(
+fn walk_all<R: Print + Eprint>(
+    rt: &R,
     s: &[u8],
     run: Run,
     sheet: &mut [u8],
@@ -138,20 +140,27 @@ fn walk_all(
         if !is_going(stand) {
             return w;
         }
-        w = step(s, w, sheet, t, out, m, text);
+        w = step(rt, s, w, sheet, t, out, m, text);
         turns -= 1;
     }
     w
 }
 
 // "After the last record": the farms' lines and the last line.
-fn finish(run: Run, sheet: &[u8], t: &[u8; TABLE], text: &mut [u8], e: Ending)
+fn finish<R: Print + Eprint>(
+    rt: &R,
+    run: Run,
+    sheet: &[u8],
+    t: &[u8; TABLE],
+    text: &mut [u8],
+    e: Ending,
+)
     requires { Kept run × (length sheet.now ≡ space_size) × (length text.old ≡ text_size) }
 {
     let lent = run.lent;
     let k = lent.sheet;
-    let used = ending::say_farms(text, run.used, run.in_words, &sheet[..k], t);
-    ending::say_last(text, used, run.in_words, e);
+    let used = ending::say_farms(rt, text, run.used, run.in_words, &sheet[..k], t);
+    ending::say_last(rt, text, used, run.in_words, e);
 }
 
 // Nothing more is read.
@@ -169,7 +178,8 @@ fn stopped(r: Turn) -> Turn
 }
 
 // The records that n bytes in hand complete.
-fn carry(
+fn carry<R: Print + Eprint>(
+    rt: &R,
     buf: &mut [u8],
     n: usize,
     r: Turn,
@@ -183,13 +193,13 @@ fn carry(
     ensures { (result.have ≤ length buf.old) × Kept result.run }
 {
     let run = r.run;
-    let w = walk_all(&buf[..n], run, sheet, t, out, m, text);
+    let w = walk_all(rt, &buf[..n], run, sheet, t, out, m, text);
     let at = w.at;
     let base = std::num::wrapping_add_usize(r.base, at);
     let after = w.run;
     let stand = w.stand;
     if let Stand::Bad = stand {
-        finish(after, sheet, t, text, Ending::Bad(base));
+        finish(rt, after, sheet, t, text, Ending::Bad(base));
         return Turn {
             base,
             have: 0,
@@ -216,9 +226,10 @@ fn ending(r: Turn) -> Ending {
 }
 
 // One read and what it completes.
-fn read_on(
-    fd: i32,
-    path: &[u8],
+fn read_on<R: Print + Eprint, F: Read>(
+    rt: &R,
+    file: &mut F,
+    path: &str,
     buf: &mut [u8],
     r: Turn,
     sheet: &mut [u8],
@@ -231,19 +242,26 @@ fn read_on(
     ensures { (result.have ≤ length buf.old) × Kept result.run }
 {
     let have = r.have;
-    let f = refill(fd, buf, have);
+    let f = refill(file, buf, have);
     match f {
-        Fill::Failed => {
-            os::fail(path);
+        Fill::Failed(e) => {
+            fail(rt, path, e);
             stopped(r)
         }
         Fill::End => {
             let run = r.run;
-            finish(run, sheet, t, text, ending(r));
+            finish(rt, run, sheet, t, text, ending(r));
             stopped(r)
         }
-        Fill::More(n) => carry(buf, n, r, sheet, t, out, m, text),
+        Fill::More(n) => carry(rt, buf, n, r, sheet, t, out, m, text),
     }
+}
+
+// Zeros for each of the day's buffers.
+fn space() -> [u8; 65536]
+    ensures { space_size ≡ length result }
+{
+    [0; 65536]
 }
 
 // Zeros for the text.
@@ -255,14 +273,14 @@ fn text_space() -> [u8; 262144]
 
 // A proved loop has to end, and nothing says that a file does: the turns are counted down. The buffer is twice the longest record, so
 // that there is always room to read into.
-pub fn play(fd: i32, path: &[u8], in_words: bool) {
-    let mut space = io::large_buffer();
-    let buf: &mut [u8] = &mut space;
-    let mut sheet_space = io::large_buffer();
+pub fn play<R: Print + Eprint, F: Read>(rt: &R, file: &mut F, path: &str, in_words: bool) {
+    let mut buf_space = space();
+    let buf: &mut [u8] = &mut buf_space;
+    let mut sheet_space = space();
     let sheet: &mut [u8] = &mut sheet_space;
-    let mut out_space = io::large_buffer();
+    let mut out_space = space();
     let out: &mut [u8] = &mut out_space;
-    let mut m_space = io::large_buffer();
+    let mut m_space = space();
     let m: &mut [u8] = &mut m_space;
     let mut text_bytes = text_space();
     let text: &mut [u8] = &mut text_bytes;
@@ -279,7 +297,7 @@ pub fn play(fd: i32, path: &[u8], in_words: bool) {
         if !r.going {
             return;
         }
-        r = read_on(fd, path, buf, r, sheet, t, out, m, text);
+        r = read_on(rt, file, path, buf, r, sheet, t, out, m, text);
         turns -= 1;
     }
 }

@@ -15,7 +15,7 @@ use say::calls;
 use table::TABLE;
 
 // How much of each buffer is lent to a call.
-#[derive(Drop)]
+#[derive(Clone, Copy)]
 pub struct Lent {
     pub sheet: usize,
     pub output: usize,
@@ -24,7 +24,7 @@ pub struct Lent {
 
 // What is kept from record to record beside the memory: what is lent, the number of calls, how much of the text is used, and whether the
 // calls are told in words.
-#[derive(Drop)]
+#[derive(Clone, Copy)]
 pub struct Run {
     pub lent: Lent,
     pub calls: usize,
@@ -75,7 +75,8 @@ fn make(
 }
 
 // A call, and what is written of it.
-fn answer(
+fn answer<R: Print + Eprint>(
+    rt: &R,
     call: Call,
     rest: &[u8],
     run: Run,
@@ -95,6 +96,7 @@ fn answer(
     let a = make(call, rest, &sheet[..k], t, &mut out[..o], &mut m[..e]);
     let calls = std::num::wrapping_add_usize(run.calls, 1);
     let used = calls::say_call(
+        rt,
         text,
         run.used,
         run.in_words,
@@ -148,7 +150,8 @@ fn lend_rooms(output: u32, assembling: u32, run: Run) -> Run
 }
 
 // A record, it; rest are the bytes that it ends in.
-pub fn carry_out(
+pub fn carry_out<R: Print + Eprint>(
+    rt: &R,
     it: Record,
     rest: &[u8],
     run: Run,
@@ -162,7 +165,7 @@ pub fn carry_out(
     ensures { Kept result }
 {
     match it {
-        Record::Made(call) => answer(call, rest, run, sheet, t, out, m, text),
+        Record::Made(call) => answer(rt, call, rest, run, sheet, t, out, m, text),
         Record::Sheet => lend_sheet(sheet, rest, run),
         Record::Rooms(o, a) => lend_rooms(o, a, run),
         Record::Damage(at) => {

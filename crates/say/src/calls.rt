@@ -9,16 +9,22 @@ use explain::heading;
 use lent::Answer;
 
 // Its line: "the answer's number, its row, the bytes taken, all decimal, then the output sheet".
-fn say_answer(text: &mut [u8], used: usize, a: Answer, sheet: &[u8]) -> usize
+fn say_answer<R: Print + Eprint>(
+    rt: &R,
+    text: &mut [u8],
+    used: usize,
+    a: Answer,
+    sheet: &[u8],
+) -> usize
     requires { (used ≤ text_size) × (length text.old ≡ text_size) × (length sheet.now ≤ space_size) }
     ensures { result ≤ text_size }
 {
-    let at = line_at(text, used);
+    let at = line_at(rt, text, used);
     lines::put_answer(text, at, a.number, a.row, a.taken, sheet)
 }
 
 // "under it one indented line per entry"
-fn tell_entries(text: &mut [u8], used: usize, sheet: &[u8]) -> usize
+fn tell_entries<R: Print + Eprint>(rt: &R, text: &mut [u8], used: usize, sheet: &[u8]) -> usize
     requires { (used ≤ text_size) × (length text.old ≡ text_size) }
     ensures { result ≤ text_size }
 {
@@ -26,7 +32,7 @@ fn tell_entries(text: &mut [u8], used: usize, sheet: &[u8]) -> usize
     let mut at = used;
     let mut i: u16 = 0;
     while i < n {
-        let from = line_at(text, at);
+        let from = line_at(rt, text, at);
         at = entry::put_line(text, from, sheet, i);
         i += 1;
     }
@@ -34,7 +40,8 @@ fn tell_entries(text: &mut [u8], used: usize, sheet: &[u8]) -> usize
 }
 
 // The call in words: its number in the file, the answer, and how many bytes were given to it.
-fn tell_call(
+fn tell_call<R: Print + Eprint>(
+    rt: &R,
     text: &mut [u8],
     used: usize,
     n: usize,
@@ -46,13 +53,14 @@ fn tell_call(
     requires { (used ≤ text_size) × (length text.old ≡ text_size) }
     ensures { result ≤ text_size }
 {
-    let at = line_at(text, used);
+    let at = line_at(rt, text, used);
     let after = heading::put_line(text, at, n, call, a.number, a.row, a.taken, given);
-    tell_entries(text, after, sheet)
+    tell_entries(rt, text, after, sheet)
 }
 
 // The one or the other; out begins with the call's output sheet.
-pub fn say_call(
+pub fn say_call<R: Print + Eprint>(
+    rt: &R,
     text: &mut [u8],
     used: usize,
     in_words: bool,
@@ -68,7 +76,7 @@ pub fn say_call(
     let k = a.length;
     let sheet = &out[..k];
     if in_words {
-        return tell_call(text, used, n, call, given, a, sheet);
+        return tell_call(rt, text, used, n, call, given, a, sheet);
     }
-    say_answer(text, used, a, sheet)
+    say_answer(rt, text, used, a, sheet)
 }

@@ -7,11 +7,18 @@ use kinds::FarmNo;
 use lines::Ending;
 use table::TABLE;
 
-fn say_farm(text: &mut [u8], used: usize, in_words: bool, f: usize, m: kinds::Meters) -> usize
+fn say_farm<R: Print + Eprint>(
+    rt: &R,
+    text: &mut [u8],
+    used: usize,
+    in_words: bool,
+    f: usize,
+    m: kinds::Meters,
+) -> usize
     requires { (used ≤ text_size) × (length text.old ≡ text_size) }
     ensures { result ≤ text_size }
 {
-    let at = line_at(text, used);
+    let at = line_at(rt, text, used);
     if in_words {
         return explain::closing::put_farm(text, at, f, m.taken, m.finished, m.lost);
     }
@@ -19,7 +26,14 @@ fn say_farm(text: &mut [u8], used: usize, in_words: bool, f: usize, m: kinds::Me
 }
 
 // "for each farm of the sheet last lent (if it is a good one)"
-pub fn say_farms(text: &mut [u8], used: usize, in_words: bool, s: &[u8], t: &[u8; TABLE]) -> usize
+pub fn say_farms<R: Print + Eprint>(
+    rt: &R,
+    text: &mut [u8],
+    used: usize,
+    in_words: bool,
+    s: &[u8],
+    t: &[u8; TABLE],
+) -> usize
     requires { (used ≤ text_size) × (length text.old ≡ text_size) }
     ensures { result ≤ text_size }
 {
@@ -31,7 +45,7 @@ pub fn say_farms(text: &mut [u8], used: usize, in_words: bool, s: &[u8], t: &[u8
     let mut f: usize = 0;
     while f < n {
         let m = call_meters::meters(t, FarmNo(f as u8));
-        at = say_farm(text, at, in_words, f, m);
+        at = say_farm(rt, text, at, in_words, f, m);
         f += 1;
     }
     at
@@ -48,10 +62,10 @@ fn put_last(text: &mut [u8], at: usize, in_words: bool, e: Ending) -> usize
 }
 
 // The last line, and all that is gathered goes out.
-pub fn say_last(text: &mut [u8], used: usize, in_words: bool, e: Ending)
+pub fn say_last<R: Print + Eprint>(rt: &R, text: &mut [u8], used: usize, in_words: bool, e: Ending)
     requires { (used ≤ text_size) × (length text.old ≡ text_size) }
 {
-    let at = line_at(text, used);
+    let at = line_at(rt, text, used);
     let end = put_last(text, at, in_words, e);
-    flush(text, end);
+    flush(rt, text, end);
 }

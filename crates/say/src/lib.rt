@@ -3,4 +3,5 @@
 
 pub mod calls; // calls.rt: what is written of a call
 pub mod ending; // ending.rt: the meters, and the last line
+pub mod fault; // fault.rt: what went wrong, on standard error
 pub mod text; // text.rt: the text that lines are gathered in
