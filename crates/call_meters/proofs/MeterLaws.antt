@@ -1,11 +1,10 @@
 -- The meters of a slot, as the query answers them.
 -- Assumes nothing.
 use Prim.Native.Nat.{ℕ, ◌≤◌, ◌<◌}
-use mathlib.Core.Path.{◌≡◌, refl, sym, ap, ◌∙◌}
+use mathlib.Core.Path.{◌≡◌, sym, ap}
 use mathlib.Core.List.{List}
 use native.Mathlib.Omega.{arith}
-use lib.ListN.{length, get_or-eq_default}
-use Rattle.kinds.specs.declared.Meters.{Meters}
+use lib.ListN.{get_or-eq_default}
 use Rattle.sheet.specs.Sheet.{most_farms}
 use Rattle.model.specs.Farm.{new_farm}
 use Rattle.model.specs.Move.{Held}

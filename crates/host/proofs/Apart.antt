@@ -19,7 +19,8 @@ use Rattle.sheet.specs.Sheet.{most_farms}
 use Rattle.model.specs.FarmSheet.{FarmSheet, slot_sheet}
 use Rattle.model.specs.Row.{row_at, is_free, is_open, active_as}
 use Rattle.model.specs.Bytes.{taken_by}
-use Rattle.model.specs.Move.{Own, connect, bytes, peer_closed, link_lost, datagram, controller, Held, Move, refused, gave, connected_at, connects, bytes_by, datagram_move, most_user, is_target, to_tester, controller_move, move}
+use Rattle.model.specs.Move.{Own, connect, bytes, peer_closed, link_lost, datagram, controller, Held, Move, refused, gave}
+use Rattle.model.specs.Move.{connected_at, connects, bytes_by, datagram_move, most_user, is_target, to_tester, controller_move, move}
 use Rattle.model.specs.Table.{Table, slot, Call, Whose, farms, whose, Outcome, moved_to, called, table_of}
 use Rattle.model.specs.History.{Made}
 use Rattle.model.proofs.Cases.{pick_case, unless_case}

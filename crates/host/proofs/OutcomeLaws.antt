@@ -26,8 +26,10 @@ use Rattle.sheet.specs.Test.{good_sheet}
 use Rattle.outsheet.specs.Replies.{hand_on, kind_of, entry_of, entries_of}
 use Rattle.model.specs.FarmSheet.{FarmSheet, slot_sheet}
 use Rattle.model.specs.Row.{row_at, is_free, is_open, active_as}
-use Rattle.model.specs.Move.{Own, connect, bytes, peer_closed, link_lost, datagram, controller, Held, Move, refused, gave, connected_at, connects, bytes_by, datagram_move, most_user, is_target, to_tester, controller_move, move}
-use Rattle.model.specs.Table.{Table, slot, least_output, assembling_size, Call, connect_to, bytes_from, peer_closed_on, link_lost_of, tick, datagram_to, message_from, Lent, farms, nobodys, of_owner, whose, Did, Outcome, refuses, did, moved_to, called, step, number_of, items_of, long_of}
+use Rattle.model.specs.Move.{Own, connect, bytes, peer_closed, link_lost, datagram, controller, Held, Move, refused, gave}
+use Rattle.model.specs.Move.{connected_at, connects, bytes_by, datagram_move, most_user, is_target, to_tester, controller_move, move}
+use Rattle.model.specs.Table.{Table, slot, least_output, assembling_size, Call, connect_to, bytes_from, peer_closed_on, link_lost_of, tick, datagram_to, message_from}
+use Rattle.model.specs.Table.{Lent, farms, nobodys, of_owner, whose, Did, Outcome, refuses, did, moved_to, called, step, number_of, items_of, long_of}
 use Rattle.model.specs.HandsOn.{is_hand_on, hand_ons}
 use Rattle.model.proofs.Cases.{pick_case, unless_case}
 use Rattle.model.proofs.DueTable.{step_case}

@@ -90,7 +90,8 @@ module _ (s : List ℕ) (c : Call) (before : Memory) where
   unfolding lent_step
   no_table_number w =
       ap
-      (λ (b : Bool). number_of (if_lent s (lent_of before.output before.assembling) (unless b (refuses 4) (step s (lent_of before.output before.assembling) (lent_table s before.table before.assembling) c))))
+      (λ (b : Bool). number_of (if_lent s (lent_of before.output before.assembling)
+      (unless b (refuses 4) (step s (lent_of before.output before.assembling) (lent_table s before.table before.assembling) c))))
       w
       ∙ four (good_sheet s) (leb least_output (length before.output)) (eqb (length before.assembling) assembling_size)
 

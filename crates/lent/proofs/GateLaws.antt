@@ -53,7 +53,8 @@ module _ (s t out m : List ℕ) where
   passes-by true true true true false e = absurd (omega (arith, e))
   passes-by true true true true true e = (refl, refl, refl, refl, refl)
 
-  tests : gate_number s t out m ≡ 0 → (good_sheet s ≡ true) × (leb least_output (length out) ≡ true) × (eqb (length m) assembling_size ≡ true) × (whole_table t ≡ true) × (good_table s (lent_table s t m) ≡ true)
+  tests : gate_number s t out m ≡ 0 → (good_sheet s ≡ true) × (leb least_output (length out) ≡ true) × (eqb (length m) assembling_size ≡ true)
+      × (whole_table t ≡ true) × (good_table s (lent_table s t m) ≡ true)
   unfolding gate_number
   tests e = passes-by (good_sheet s) (leb least_output (length out)) (eqb (length m) assembling_size) (whole_table t) (good_table s (lent_table s t m)) e
 

@@ -6,7 +6,6 @@ use mathlib.Core.Bool.{Bool, true, false}
 use mathlib.Core.List.{List, [], ◌++◌}
 use native.Mathlib.Omega.{arith}
 use lib.ListN.{length, take, drop, set, take-append-drop}
-use lib.Seq.{drop-drop}
 use Rattle.octets.specs.Choice.{pick}
 use Rattle.octets.specs.declared.Found.{Found}
 use Rattle.octets.specs.declared.Found.TheVariants.{At, Nothing}
@@ -23,10 +22,10 @@ use Rattle.outsheet.specs.Contracts.{Wrote}
 use Rattle.model.specs.FarmSheet.{farm_sheet}
 use Rattle.model.specs.Row.{row_at, fresh_row, is_free, is_open}
 use Rattle.model.specs.Farm.{with_row}
-use Rattle.model.specs.Move.{connect, peer_closed, link_lost, Move, refused, moves, connected_at, connects, peer_gone, link_gone, move}
-use Rattle.model.specs.Table.{connect_to, peer_closed_on, link_lost_of, Did, Outcome, refuses, moved_to, whose}
+use Rattle.model.specs.Move.{connect, peer_closed, link_lost, refused, moves, connected_at, connects, peer_gone, link_gone, move}
+use Rattle.model.specs.Table.{connect_to, peer_closed_on, link_lost_of, Did, refuses, moved_to, whose}
 use Rattle.table.specs.Layout.{block_size, table_size}
-use Rattle.table.specs.Block.{farm_of, image, Holds}
+use Rattle.table.specs.Block.{farm_of, Holds}
 use Rattle.table.proofs.BlockLaws.{exact, settled}
 use Rattle.farm.specs.Connected.{connected_farm}
 use Rattle.lent.specs.declared.Answer.{Answer}

@@ -1,7 +1,7 @@
 -- From what a farm did on its block and on an empty plan to what the call has done.
 -- Assumes nothing.
-use Prim.Native.Nat.{ℕ, ◌+◌, ◌≤◌, ◌<◌}
-use mathlib.Core.Path.{◌≡◌, refl, sym, ap, ◌∙◌, subst}
+use Prim.Native.Nat.{ℕ, ◌≤◌, ◌<◌}
+use mathlib.Core.Path.{◌≡◌, ap, ◌∙◌}
 use mathlib.Core.List.{List, []}
 use native.Mathlib.Omega.{arith}
 use lib.ListN.{length}
@@ -14,7 +14,7 @@ use Rattle.plan.specs.Plan.{plan_room, items_of, PlanOk, Said}
 use Rattle.outsheet.specs.Contracts.{least_output, Room, Wrote}
 use Rattle.outsheet.proofs.RoomLaws.{room_for}
 use Rattle.model.specs.FarmSheet.{farm_sheet}
-use Rattle.model.specs.Farm.{Farm, Done}
+use Rattle.model.specs.Farm.{Done}
 use Rattle.model.specs.Move.{peer_gone, link_gone, no_row}
 use Rattle.model.proofs.RuleParts.{FarmOk}
 use Rattle.model.proofs.RuleKept.{farm-ok}

@@ -5,30 +5,27 @@ use mathlib.Core.Path.{◌≡◌, refl, sym, ap, ◌∙◌, subst}
 use mathlib.Core.Bool.{true}
 use mathlib.Core.List.{List, []}
 use native.Mathlib.Omega.{arith}
-use lib.ListN.{length, drop, set}
+use lib.ListN.{length, set}
 use borrow.Author.Tests.{lt-ltb, le-ltb}
 use Rattle.octets.specs.Choice.{pick}
-use Rattle.octets.specs.Says.{Says}
 use Rattle.octets.proofs.PartsLaws.{length_part}
 use Rattle.sheet.specs.declared.rows.Owner.{Owner}
 use Rattle.sheet.specs.declared.rows.Owner.TheVariants.{Seat, Nobody}
 use Rattle.sheet.specs.Sheet.{most_farms, farm_count, farm_no}
-use Rattle.sheet.specs.Rows.{rows_in, owner_of}
-use Rattle.sheet.specs.Rules.{GoodSheet}
-use Rattle.model.specs.FarmSheet.{FarmSheet, farm_sheet, slot_sheet}
+use Rattle.sheet.specs.Rows.{owner_of}
+use Rattle.model.specs.FarmSheet.{FarmSheet, farm_sheet}
 use Rattle.model.specs.Farm.{Farm, Done}
-use Rattle.model.specs.Move.{Own, Held, Given, Move, refused, gave, moves, move, no_row}
+use Rattle.model.specs.Move.{Own, Held, moves, move, no_row}
 use Rattle.model.specs.RuleTest.{good_farm}
-use Rattle.model.specs.Rule.{Good}
-use Rattle.model.specs.Table.{Table, slot, Call, Did, Outcome, refuses, did, nobodys, farms, of_farm, of_owner, Whose, whose, moved_to, called}
+use Rattle.model.specs.Table.{Table, slot, Call, Did, refuses, nobodys, farms, of_farm, of_owner, Whose, whose, moved_to, called}
 use Rattle.model.proofs.RuleTestLaws.{farm-says}
 use Rattle.table.specs.Layout.{block_size, table_size}
-use Rattle.table.specs.Block.{farm_of, image, Whole, whole_block, Holds}
+use Rattle.table.specs.Block.{farm_of, Holds}
 use Rattle.table_whole.proofs.WholeTest.{whole_says}
 use Rattle.lent.specs.declared.Answer.{Answer}
-use Rattle.lent.specs.Lent.{block, Only, whole_table, room_size, held_at, lent_table, lent_step}
+use Rattle.lent.specs.Lent.{block, Only, held_at, lent_table, lent_step}
 use Rattle.lent.specs.Gate.{Passed}
-use Rattle.lent.specs.Served.{done, memory, Served}
+use Rattle.lent.specs.Served.{memory, Served}
 use Rattle.lent.proofs.LentLaws.{slot-farm, slot_is}
 use Rattle.lent.proofs.BytesLaws.{block-says, whole_exact}
 use Rattle.lent.proofs.GateLaws.{goes_on_lem}

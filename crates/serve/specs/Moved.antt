@@ -8,7 +8,7 @@ use Rattle.outsheet.specs.Replies.{entries_of}
 use Rattle.outsheet.specs.Contracts.{Wrote}
 use Rattle.model.specs.Farm.{Farm, Done}
 use Rattle.model.specs.Move.{no_row, Move, refused, gave}
-use Rattle.table.specs.Block.{farm_of, Holds}
+use Rattle.table.specs.Block.{Holds}
 use Rattle.closing.specs.Did.{Did}
 use Rattle.farm_controller.specs.Message.{message_move}
 use Rattle.farm.specs.Connected.{Connected}

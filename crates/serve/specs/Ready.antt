@@ -1,6 +1,6 @@
 -- What a call knows of the farm that it is for, once refusals 1 to 5 are past.
 -- Assumes nothing: this is a definition.
-use Rattle.std.specs.Prelude.{ℕ, ◌≤◌, ◌<◌, ◌≡◌, List, length}
+use Rattle.std.specs.Prelude.{ℕ, ◌<◌, ◌≡◌, List, length}
 use Rattle.sheet.specs.Sheet.{farm_count}
 use Rattle.sheet.specs.Rules.{GoodSheet}
 use Rattle.model.specs.FarmSheet.{farm_sheet}

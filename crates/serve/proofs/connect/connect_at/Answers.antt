@@ -1,0 +1,17 @@
+-- `connect::connect_at` meets its contract.
+-- Assumes nothing.
+use mathlib.Core.Path.{sym, subst}
+use mathlib.Core.List.{List}
+use Prim.Native.Nat.{ℕ, ◌≤◌}
+use Rattle.table.specs.Layout.{seats}
+use Rattle.table.specs.Block.{Whole}
+use Rattle.serve.proofs.BlockLaws.{lent_is, connected-lent}
+use Rattle.serve.proofs.connect.connect_at.Goals as goal
+
+pub connect-requires : goal.connect-requires
+connect-requires c =
+    subst (λ (b : List ℕ). (c.args.rows ≤ seats) × Whole b) (sym (lent_is c.args.t.now c.args.f)) (c.requires.2, c.requires.3)
+
+pub returns : goal.returns
+returns c =
+    connected-lent _ _ c.args.f c.args.rows _ c.requires.1 c.requires.0 c.connect.ensures
