@@ -30,6 +30,7 @@ fn free_keeps(b: &[u8], i: usize, place: Place) -> bool
 }
 
 // "an age is 200 or more"
+#[tactic(auto, unfolding(kinds::specs::Clock::initial_limit))]
 fn fresh_keeps(b: &[u8], rows: usize, i: usize, age: Clock) -> bool
     requires { length b.now ≡ block_size }
     ensures { result ≡ fresh_keeps rows (farm_of b.now) i age }
@@ -72,6 +73,7 @@ fn waiting_keeps(
 }
 
 // "an active address isn't that farm's tester or is active twice", "an idle count 30,000 or more"
+#[tactic(auto, unfolding(kinds::specs::Clock::general_limit))]
 fn active_keeps(
     b: &[u8],
     s: &[u8],

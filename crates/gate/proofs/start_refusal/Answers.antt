@@ -13,12 +13,12 @@ returns-then-not-sheet_ok c = number_1 _ _ _ (says_same (good-says _) c.sheet_ok
 
 pub returns-then-out-lt-LEAST_OUTPUT : goal.returns-then-out-lt-LEAST_OUTPUT
 unfolding least_output
-returns-then-out-lt-LEAST_OUTPUT c = number_2 _ _ _ (says_same (good-says _) c.sheet_ok.ensures ∙ c.if-not-sheet_ok.false) (omega (arith, c.if-out-lt-LEAST_OUTPUT.true))
+returns-then-out-lt-LEAST_OUTPUT c = number_2 _ _ _ (says_same (good-says _) c.sheet_ok.ensures ∙ c.if-not-sheet_ok.false) (omega arith)
 
 pub returns-then-m-ne-ASSEMBLING : goal.returns-then-m-ne-ASSEMBLING
 unfolding least_output assembling_size
-returns-then-m-ne-ASSEMBLING c = number_3 _ _ _ (says_same (good-says _) c.sheet_ok.ensures ∙ c.if-not-sheet_ok.false) (omega (arith, c.if-out-lt-LEAST_OUTPUT.false)) c.if-m-ne-ASSEMBLING.true
+returns-then-m-ne-ASSEMBLING c = number_3 _ _ _ (says_same (good-says _) c.sheet_ok.ensures ∙ c.if-not-sheet_ok.false) (omega arith) c.if-m-ne-ASSEMBLING.true
 
 pub returns : goal.returns
 unfolding least_output assembling_size
-returns c = number_0 _ _ _ (says_same (good-says _) c.sheet_ok.ensures ∙ c.if-not-sheet_ok.false) (omega (arith, c.if-out-lt-LEAST_OUTPUT.false)) (omega (arith, c.if-m-ne-ASSEMBLING.false))
+returns c = number_0 _ _ _ (says_same (good-says _) c.sheet_ok.ensures ∙ c.if-not-sheet_ok.false) (omega arith) (omega arith)

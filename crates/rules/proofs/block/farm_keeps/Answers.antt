@@ -33,7 +33,7 @@ returns-then-q-count_active c = let s = c.args in
     let x : Farm = farm_of s.b.now in
     let r = eq-eqb (length x.rows) 9 (nine s.b.now) in
     let m = eq-eqb (length x.marks) 9 (marks-seats s.b.now c.requires.0) in
-    let h : s.site.quota < count_if is_active x.rows = omega (arith, c.if-q-count_active.true, c.wide-q.ensures, c.count_active.ensures) in
+    let h : s.site.quota < count_if is_active x.rows = omega arith in
     simp (r, m, sym c.seats_keep.ensures ∙ c.if-not-seats_keep.false, lt-leb _ _ h)
 
 pub returns-then-not-line_seated : goal.returns-then-not-line_seated
@@ -42,7 +42,7 @@ returns-then-not-line_seated c = let s = c.args in
     let x : Farm = farm_of s.b.now in
     let r = eq-eqb (length x.rows) 9 (nine s.b.now) in
     let m = eq-eqb (length x.marks) 9 (marks-seats s.b.now c.requires.0) in
-    let h : count_if is_active x.rows ≤ s.site.quota = omega (arith, c.if-q-count_active.false, c.wide-q.ensures, c.count_active.ensures) in
+    let h : count_if is_active x.rows ≤ s.site.quota = omega arith in
     simp (r, m, sym c.seats_keep.ensures ∙ c.if-not-seats_keep.false, le-leb _ _ h, sym c.line_seated.ensures ∙ c.if-not-line_seated.true)
 
 pub returns-then-not-head_keeps : goal.returns-then-not-head_keeps
@@ -51,7 +51,7 @@ returns-then-not-head_keeps c = let s = c.args in
     let x : Farm = farm_of s.b.now in
     let r = eq-eqb (length x.rows) 9 (nine s.b.now) in
     let m = eq-eqb (length x.marks) 9 (marks-seats s.b.now c.requires.0) in
-    let h : count_if is_active x.rows ≤ s.site.quota = omega (arith, c.if-q-count_active.false, c.wide-q.ensures, c.count_active.ensures) in
+    let h : count_if is_active x.rows ≤ s.site.quota = omega arith in
     let k = sym (c.head_keeps.ensures ∙ head_carried s.s.now s.f.0 s.site s.rows x x.line) ∙ c.if-not-head_keeps.true in
     simp (r, m, sym c.seats_keep.ensures ∙ c.if-not-seats_keep.false, le-leb _ _ h, sym c.line_seated.ensures ∙ c.if-not-line_seated.false, k)
 
@@ -61,7 +61,7 @@ returns c = let s = c.args in
     let x : Farm = farm_of s.b.now in
     let r = eq-eqb (length x.rows) 9 (nine s.b.now) in
     let m = eq-eqb (length x.marks) 9 (marks-seats s.b.now c.requires.0) in
-    let h : count_if is_active x.rows ≤ s.site.quota = omega (arith, c.if-q-count_active.false, c.wide-q.ensures, c.count_active.ensures) in
+    let h : count_if is_active x.rows ≤ s.site.quota = omega arith in
     let k = sym (c.head_keeps.ensures ∙ head_carried s.s.now s.f.0 s.site s.rows x x.line) ∙ c.if-not-head_keeps.false in
     simp (r, m, sym c.seats_keep.ensures ∙ c.if-not-seats_keep.false, le-leb _ _ h, sym c.line_seated.ensures ∙ c.if-not-line_seated.false, k)
     (ap (λ (k : Clock). ltb k.ticks 50) c.clock_at-c.ensures)
