@@ -3,11 +3,11 @@
 -- Assumes nothing.
 use mathlib.Core.Path.{◌≡◌, sym, ap, ◌∙◌}
 use mathlib.Core.List.{List, [], ◌∷◌, ◌++◌, append_assoc}
-use Prim.Native.Nat.{ℕ, suc, ◌+◌, ◌*◌, ◌/◌, ◌%◌, ◌≤◌, ◌<◌}
+use Prim.Native.Nat.{ℕ, suc, ◌+◌, ◌/◌, ◌%◌, ◌≤◌, ◌<◌}
 use native.Mathlib.Nat.{add_assoc, add-zero}
 use native.Mathlib.Numerals.{add-one}
 use native.Mathlib.Omega.{arith}
-use lib.ListN.{length, get_or, take, drop, set, length-append, length-take, length-drop, get_or-append}
+use lib.ListN.{length, get_or, take, drop, set, length-append, length-drop, get_or-append}
 use lib.Seq.{take_at, drop_at, take-append-le, take-take, get_or-append-add, drop-drop, length-take-le, paste-zero, set_split, append_snoc}
 use Rattle.octets.specs.Numbers.{u16_at, u32_at, be16, be32}
 use Rattle.octets.specs.Put.{put_at}

@@ -1,7 +1,6 @@
 -- `same` meets its contract: what is left of the two lists decides.
 -- Assumes nothing.
 use mathlib.Core.Path.{refl, sym, ◌∙◌}
-use Prim.Native.Nat.{◌-◌}
 use native.Mathlib.Omega.{arith}
 use Rattle.octets.proofs.SearchLaws.{same_next, same_differ, same_end, same_short}
 use Rattle.octets.proofs.same.Goals as goal

@@ -2,7 +2,6 @@
 -- Assumes nothing.
 use mathlib.Core.Path.{◌≡◌, refl, sym, ap, ◌∙◌}
 use mathlib.Core.Bool.{Bool, true, false}
-use Prim.Native.Nat.{◌-◌}
 use native.Mathlib.Omega.{arith}
 use Rattle.octets.proofs.SearchLaws.{some-here, some_next, some_end}
 use Prim.Native.Nat.{ℕ}
