@@ -7,7 +7,7 @@ use mathlib.Core.List.{List, [], ◌∷◌, ◌++◌}
 use native.Mathlib.Omega.{arith}
 use lib.ListN.{length, take, set, replicate, length-set, length-replicate, replicate-append-replicate, get_or-replicate}
 use lib.Seq.{take-suc-set, take_all, ext_get_or}
-use Rattle.octets.proofs.PartsLaws.{length_part, get_d_part}
+use Rattle.octets.proofs.PartsLaws.{length_part, get_or-part}
 use Rattle.sheet.specs.Sheet.{most_farms}
 use Rattle.model.specs.Farm.{Farm, new_farm}
 use Rattle.model.specs.Table.{Table, renewed}
@@ -54,7 +54,7 @@ zero-block f h =
     ext_get_or 0 (block (replicate table_size 0) f) (replicate block_size 0) (n ∙ sym (length-replicate {A = ℕ} block_size 0))
     (λ i k.
     let j : i < block_size = omega (arith, n, k) in
-    get_d_part (replicate table_size 0) (f * block_size) block_size i j
+    get_or-part (replicate table_size 0) (f * block_size) block_size i j
     ∙ get_or-replicate table_size (f * block_size + i) 0 0 (omega (arith, h, j))
     ∙ sym (get_or-replicate block_size i 0 0 j))
 

@@ -108,8 +108,8 @@ parts_before b at bs f k a (suc n) h =
     rw (part_before b at bs f a k (omega (arith, suc-mul n k)), parts_before b at bs f k (a + k) n (omega (arith, suc-mul n k)))
 
 -- what stands in a part
-pub get_d_part : (b : List ℕ) (a n k : ℕ) → k < n → get_or (part b a n) k 0 ≡ get_or b (a + k) 0
-get_d_part b a n k h = rw (get_or-take, get_or-drop)
+pub get_or-part : (b : List ℕ) (a n k : ℕ) → k < n → get_or (part b a n) k 0 ≡ get_or b (a + k) 0
+get_or-part b a n k h = rw (get_or-take, get_or-drop)
 
 pub length_part : (s : List ℕ) (a n : ℕ) → a + n ≤ length s → length (part s a n) ≡ n
 length_part s a n h = length-take-le n (drop a s) (omega (arith, length-drop a s))

@@ -30,9 +30,9 @@ module _ (out : List ℕ) (at : ℕ) (bs : List ℕ) (fits : at + length bs ≤ 
   drop-put_at = drop_at (take at out ++ bs) (drop (at + length bs) out) (at + length bs) head-length
 
   -- within the place stand the bytes
-  pub get_d_put_at : (k : ℕ) → k < length bs → get_or (put_at out at bs) (at + k) 0 ≡ get_or bs k 0
+  pub get_or-put_at : (k : ℕ) → k < length bs → get_or (put_at out at bs) (at + k) 0 ≡ get_or bs k 0
   unfolding put_at
-  get_d_put_at k h =
+  get_or-put_at k h =
       get_or-append (take at out ++ bs) (drop (at + length bs) out) 0 (at + k) (omega (arith, head-length))
       ∙ ap (λ (n : ℕ). get_or (take at out ++ bs) (n + k) 0) (sym (length-take-le at out (omega arith)))
       ∙ get_or-append-add (take at out) bs k 0
@@ -54,18 +54,18 @@ pub read_back16 : (out : List ℕ) (at x : ℕ) → at + 2 ≤ length out → u1
 read_back16 out at x h =
     omega (
       arith,
-      ap (λ (n : ℕ). get_or (put_at out at (be16 x)) n 0) (sym (add-zero at)) ∙ get_d_put_at out at (be16 x) h 0 (omega arith),
-      get_d_put_at out at (be16 x) h 1 (omega arith),
+      ap (λ (n : ℕ). get_or (put_at out at (be16 x)) n 0) (sym (add-zero at)) ∙ get_or-put_at out at (be16 x) h 0 (omega arith),
+      get_or-put_at out at (be16 x) h 1 (omega arith),
     )
 
 pub read_back32 : (out : List ℕ) (at x : ℕ) → at + 4 ≤ length out → u32_at (put_at out at (be32 x)) at ≡ x
 read_back32 out at x h =
     omega (
       arith,
-      ap (λ (n : ℕ). get_or (put_at out at (be32 x)) n 0) (sym (add-zero at)) ∙ get_d_put_at out at (be32 x) h 0 (omega arith),
-      get_d_put_at out at (be32 x) h 1 (omega arith),
-      get_d_put_at out at (be32 x) h 2 (omega arith),
-      get_d_put_at out at (be32 x) h 3 (omega arith),
+      ap (λ (n : ℕ). get_or (put_at out at (be32 x)) n 0) (sym (add-zero at)) ∙ get_or-put_at out at (be32 x) h 0 (omega arith),
+      get_or-put_at out at (be32 x) h 1 (omega arith),
+      get_or-put_at out at (be32 x) h 2 (omega arith),
+      get_or-put_at out at (be32 x) h 3 (omega arith),
     )
 
 -- a short number's four bytes

@@ -15,7 +15,7 @@ use Rattle.octets.specs.Put.{put_at}
 use Rattle.octets.specs.Parts.{part, parts}
 use Rattle.octets.specs.Search.{count_if}
 use Rattle.octets.proofs.PutLaws.{length-put_at}
-use Rattle.octets.proofs.PartsLaws.{part_same, parts_before, parts_snoc, parts-length, parts_get, get_d_part}
+use Rattle.octets.proofs.PartsLaws.{part_same, parts_before, parts_snoc, parts-length, parts_get, get_or-part}
 use Rattle.kinds.specs.declared.Reply.{Reply}
 use Rattle.kinds.specs.declared.Reply.TheVariants.{Nack, Identity, Activation, AliveCheck, Status, PowerMode, Message, Ack, DiagnosticNack, Close, HandOn}
 use Rattle.kinds.specs.declared.Item.{Item}
@@ -71,7 +71,7 @@ item_said p i h =
     ∙ ap item_from (parts_get item_size 1 (count_of p) i p (omega (arith, h, count-items p)))
 
 at_part : (p : List ℕ) (at k m : ℕ) → k < item_size → m ≡ at + k → get_or (part p at item_size) k 0 ≡ get_or p m 0
-at_part p at k m h e = get_d_part p at item_size k h ∙ ap (λ (j : ℕ). get_or p j 0) (sym e)
+at_part p at k m h e = get_or-part p at item_size k h ∙ ap (λ (j : ℕ). get_or p j 0) (sym e)
 
 -- the item at a place, read byte by byte
 pub item_read : (p : List ℕ) (i at : ℕ) → at ≡ 1 + i * item_size

@@ -14,7 +14,7 @@ use lib.ListN.{length, get_or, length-map}
 use Rattle.octets.specs.Choice.{pick}
 use Rattle.octets.specs.Numbers.{u16_at}
 use Rattle.octets.specs.Parts.{part, parts}
-use Rattle.octets.proofs.PartsLaws.{parts-length, get_d_part}
+use Rattle.octets.proofs.PartsLaws.{parts-length, get_or-part}
 use Rattle.sheet.specs.declared.find.Known.{Known}
 use Rattle.sheet.specs.declared.find.Found.{Found}
 use Rattle.sheet.specs.declared.find.Found.TheVariants.{Is, Nobody}
@@ -31,8 +31,8 @@ pub known_part : (s : List ℕ) (p : ℕ)
     → known_from (part s p known_size) ≡ record { address = u16_at s p; farm = farm_no (get_or s (p + 2) 0); flag = get_or s (p + 3) 0 }
 known_part s p =
     let z : p + 0 ≡ p = omega arith in
-    let a : get_or (part s p known_size) 0 0 ≡ get_or s p 0 = get_d_part s p known_size 0 (omega arith) ∙ ap (λ (k : ℕ). get_or s k 0) z in
-    rw (a, get_d_part s p known_size 1 (omega arith), get_d_part s p known_size 2 (omega arith), get_d_part s p known_size 3 (omega arith))
+    let a : get_or (part s p known_size) 0 0 ≡ get_or s p 0 = get_or-part s p known_size 0 (omega arith) ∙ ap (λ (k : ℕ). get_or s k 0) z in
+    rw (a, get_or-part s p known_size 1 (omega arith), get_or-part s p known_size 2 (omega arith), get_or-part s p known_size 3 (omega arith))
 
 pub knowns_length : (s : List ℕ) (at n : ℕ) → length (knowns_at s at n) ≡ n
 knowns_length s at n = length-map (parts known_size at n s) known_from ∙ parts-length known_size at n s

@@ -12,7 +12,7 @@ use Rattle.octets.specs.Numbers.{u16_at}
 use Rattle.octets.specs.Put.{put_at}
 use Rattle.octets.specs.Parts.{part, parts, joined}
 use Rattle.octets.proofs.PutLaws.{length-put_at}
-use Rattle.octets.proofs.PartsLaws.{part_same, part_before, part-after, parts-after, parts_same, parts_get, parts-length, part_join, parts_join, get_d_part}
+use Rattle.octets.proofs.PartsLaws.{part_same, part_before, part-after, parts-after, parts_same, parts_get, parts-length, part_join, parts_join, get_or-part}
 use Rattle.kinds.specs.Clock.{clock_of}
 use Rattle.kinds.specs.declared.Clock.{Clock}
 use Rattle.kinds.specs.declared.Meters.{Meters}
@@ -23,7 +23,7 @@ use Rattle.rowbytes.specs.RowLayout.{row_size, head_size}
 use Rattle.table.specs.Layout.{seats, meters_at, meters_size, line_at, line_size, clock_at, clock_size, marks_at, rows_at, block_size}
 use Rattle.rowbytes.specs.RowBytes.{row_from, row_image, state_in}
 use Rattle.table.specs.Block.{meters_image, meters_from, line_image, line_from, clock_image, clock_from, marks_image, marks_from, farm_of, image, Whole, Holds}
-use Rattle.table.proofs.ListLaws.{map-set, get_d_any}
+use Rattle.table.proofs.ListLaws.{map-set, get_or_any}
 use Rattle.rowbytes.proofs.RowLaws.{two, four, row-long, row_back}
 use Rattle.table.proofs.LineLaws.{line-long, line_back}
 
@@ -87,7 +87,7 @@ unfolding farm_of
 row_read b i h =
     let l : List (List ℕ) = parts row_size rows_at seats b in
     let n : i < length l = omega (arith, parts-length row_size rows_at seats b) in
-    ap row_from (sym (parts_get row_size rows_at seats i b h) ∙ get_d_any l i [] zero_row n)
+    ap row_from (sym (parts_get row_size rows_at seats i b h) ∙ get_or_any l i [] zero_row n)
     ∙ sym (get_or-map row_from l i zero_row)
     ∙ ap (get_or (map row_from l) i) zero_free
 
@@ -101,8 +101,8 @@ no_row_read b i h =
 pub clock_read : (b : List ℕ) → clock_of (u16_at b clock_at) ≡ (farm_of b).clock
 unfolding farm_of clock_from
 clock_read b =
-    ap (λ (x : ℕ). clock_of (x * 256 + get_or b (clock_at + 1) 0)) (sym (get_d_part b clock_at clock_size 0 (omega arith)))
-    ∙ ap (λ (x : ℕ). clock_of (get_or (part b clock_at clock_size) 0 0 * 256 + x)) (sym (get_d_part b clock_at clock_size 1 (omega arith)))
+    ap (λ (x : ℕ). clock_of (x * 256 + get_or b (clock_at + 1) 0)) (sym (get_or-part b clock_at clock_size 0 (omega arith)))
+    ∙ ap (λ (x : ℕ). clock_of (get_or (part b clock_at clock_size) 0 0 * 256 + x)) (sym (get_or-part b clock_at clock_size 1 (omega arith)))
 
 -- ---- storing one record
 

@@ -26,10 +26,10 @@ back_each f g (x ∷ l) d e zero k = cc
 back_each f g (x ∷ l) d e (suc i) k = let z : map g (map f l) ≡ l = cc in back_each f g l d z i (omega arith)
 
 -- within a list it does not matter what would stand past its end
-pub get_d_any : {A : Type 0} (l : List A) (i : ℕ) (d e : A) → i < length l → get_or l i d ≡ get_or l i e
-get_d_any [] i d e h = absurd (omega arith)
-get_d_any (x ∷ l) zero d e h = refl
-get_d_any (x ∷ l) (suc i) d e h = get_d_any l i d e (omega arith)
+pub get_or_any : {A : Type 0} (l : List A) (i : ℕ) (d e : A) → i < length l → get_or l i d ≡ get_or l i e
+get_or_any [] i d e h = absurd (omega arith)
+get_or_any (x ∷ l) zero d e h = refl
+get_or_any (x ∷ l) (suc i) d e h = get_or_any l i d e (omega arith)
 
 -- ---- a list filled up to a length
 

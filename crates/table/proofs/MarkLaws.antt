@@ -12,7 +12,7 @@ use Rattle.octets.specs.Choice.{one}
 use Rattle.octets.specs.Put.{put_at}
 use Rattle.octets.specs.Parts.{part}
 use Rattle.octets.proofs.PutLaws.{set_more, put_at-none}
-use Rattle.octets.proofs.PartsLaws.{get_d_part, length_part}
+use Rattle.octets.proofs.PartsLaws.{get_or-part, length_part}
 use Rattle.model.specs.Farm.{with_marks}
 use Rattle.model.specs.Line.{is_marked}
 use Rattle.table.specs.Layout.{seats, marks_at, block_size}
@@ -48,7 +48,7 @@ module _ (b : List ℕ) (long : length b ≡ block_size) where
       let n : length xs ≡ i = so_many i (omega arith) in
       let z : marks_from (take (i + 1) bytes) ≡ xs ++ (x ∷ []) =
       ap (λ (k : ℕ). marks_from (take k bytes)) (add-one i) ∙ ap marks_from (take-suc bytes i 0 (omega (arith, bytes-long)))
-      ∙ map_snoc is_one (take i bytes) (get_or bytes i 0) ∙ ap (λ (y : ℕ). xs ++ (is_one y ∷ [])) (get_d_part b marks_at seats i h)
+      ∙ map_snoc is_one (take i bytes) (get_or bytes i 0) ∙ ap (λ (y : ℕ). xs ++ (is_one y ∷ [])) (get_or-part b marks_at seats i h)
       in
       ap (λ (a : List Bool). set a i x) e ∙ ap (λ (k : ℕ). set (filled seats false xs) k x) (sym n)
       ∙ filled_next seats false xs x (omega arith) ∙ ap (filled seats false) (sym z)
@@ -66,7 +66,7 @@ module _ (b : List ℕ) (long : length b ≡ block_size) where
   -- the mark of one seat
   pub mark_read : (i : ℕ) → i < seats → is_one (get_or b (marks_at + i) 0) ≡ is_marked (farm_of b).marks i
   unfolding farm_of marks_from
-  mark_read i h = sym (get_or-map is_one (part b marks_at seats) i 0 ∙ ap is_one (get_d_part b marks_at seats i h))
+  mark_read i h = sym (get_or-map is_one (part b marks_at seats) i 0 ∙ ap is_one (get_or-part b marks_at seats i h))
 
 -- ---- storing
 

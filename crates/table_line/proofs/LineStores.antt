@@ -14,7 +14,7 @@ use Rattle.octets.specs.Choice.{pick}
 use Rattle.octets.specs.Put.{put_at}
 use Rattle.octets.specs.Parts.{part}
 use Rattle.octets.proofs.PutLaws.{put_start, put-more, set-put_at}
-use Rattle.octets.proofs.PartsLaws.{get_d_part, length_part}
+use Rattle.octets.proofs.PartsLaws.{get_or-part, length_part}
 use Rattle.model.specs.Farm.{with_line}
 use Rattle.model.specs.Line.{without}
 use Rattle.table.specs.Layout.{seats, line_at, line_size, seats_at, block_size}
@@ -46,7 +46,7 @@ module _ (b : List ℕ) where
   pub line-is : (farm_of b).line ≡ take (get_or b line_at 0) (part b seats_at seats)
   unfolding farm_of line_from
   line-is =
-      ap (λ (n : ℕ). take n (part (part b line_at line_size) 1 seats)) (get_d_part b line_at line_size 0 (omega arith))
+      ap (λ (n : ℕ). take n (part (part b line_at line_size) 1 seats)) (get_or-part b line_at line_size 0 (omega arith))
       ∙ ap (λ (l : List ℕ). take (get_or b line_at 0) (take seats l)) (part_tail b line_at seats)
       ∙ ap (take (get_or b line_at 0)) (take-take seats seats (drop seats_at b) (omega arith))
 
@@ -67,7 +67,7 @@ module _ (b : List ℕ) where
   pub seat_read : (k : ℕ) → k < length (farm_of b).line → get_or b (seats_at + k) 0 ≡ get_or (farm_of b).line k 0
   seat_read k h =
       let n : k < get_or b line_at 0 = omega (arith, ap length line-is, length-take (get_or b line_at 0) (part b seats_at seats)) in
-      sym (ap (λ (l : List ℕ). get_or l k 0) line-is ∙ get_or-take (get_or b line_at 0) (part b seats_at seats) k 0 n ∙ get_d_part b seats_at seats k (omega (arith, few)))
+      sym (ap (λ (l : List ℕ). get_or l k 0) line-is ∙ get_or-take (get_or b line_at 0) (part b seats_at seats) k 0 n ∙ get_or-part b seats_at seats k (omega (arith, few)))
 
   pub no_seat : (k : ℕ) → length (farm_of b).line ≤ k → 0 ≡ get_or (farm_of b).line k 0
   no_seat k h = sym (get_or-eq_default (farm_of b).line 0 {n = k} h)

@@ -10,7 +10,7 @@ use lib.Seq.{drop-cons, get_or-drop, get_or-append-add, ext_get_or, length-take-
 use Rattle.octets.specs.Choice.{one}
 use Rattle.octets.specs.Numbers.{u32_at, be32}
 use Rattle.octets.specs.Parts.{part, parts}
-use Rattle.octets.proofs.PartsLaws.{get_d_part, length_part, parts_get, parts-length}
+use Rattle.octets.proofs.PartsLaws.{get_or-part, length_part, parts_get, parts-length}
 use Rattle.rowbytes.specs.RowLayout.{row_size}
 use Rattle.rowbytes.specs.RowBytes.{row_image, row_from, RowOk}
 use Rattle.rowbytes.proofs.RunLaws.{run_is}
@@ -39,12 +39,12 @@ module _ (b : List ℕ) (long : length b ≡ block_size) where
   pub any_meters : ((i : ℕ) → get_or b i 0 < 256) → MetersOk b
   any_meters byte =
       meters_of_lem (part b meters_at meters_size) (length_part b meters_at meters_size (omega arith))
-      (λ i h. omega (arith, get_d_part b meters_at meters_size i h, byte (meters_at + i)))
+      (λ i h. omega (arith, get_or-part b meters_at meters_size i h, byte (meters_at + i)))
 
   pub any_clock : ((i : ℕ) → get_or b i 0 < 256) → ClockOk b
   any_clock byte =
       clock_of_lem (part b clock_at clock_size) (length_part b clock_at clock_size (omega arith))
-      (omega (arith, get_d_part b clock_at clock_size 1 (omega arith), byte (clock_at + 1)))
+      (omega (arith, get_or-part b clock_at clock_size 1 (omega arith), byte (clock_at + 1)))
 
   -- ---- the line
 
@@ -64,7 +64,7 @@ module _ (b : List ℕ) (long : length b ≡ block_size) where
       let z : drop n p ≡ replicate (seats - n) 0 =
       ext_get_or 0 (drop n p) (replicate (seats - n) 0) (length-drop n p ∙ ap (λ (k : ℕ). k - n) seats-long ∙ sym (length-replicate {A = ℕ} (seats - n) 0))
       (λ i k. let m : i < seats - n = omega (arith, length-drop n p, seats-long) in
-      get_or-drop n p i 0 ∙ get_d_part b seats_at seats (n + i) (omega arith) ∙ zeros (n + i) (omega arith) (omega arith) ∙ sym (get_or-replicate (seats - n) i 0 0 m))
+      get_or-drop n p i 0 ∙ get_or-part b seats_at seats (n + i) (omega arith) ∙ zeros (n + i) (omega arith) (omega arith) ∙ sym (get_or-replicate (seats - n) i 0 0 m))
       in
       ap (λ (x : List ℕ). length x ∷ padded x) (line-is b)
       ∙ ap (λ (k : ℕ). k ∷ l ++ replicate (seats - k) 0) ln
@@ -84,7 +84,7 @@ module _ (b : List ℕ) (long : length b ≡ block_size) where
       let l : List ℕ = (farm_of b).line in
       let n : length (farm_of b).line ≡ get_or b line_at 0 = ap (λ (x : List ℕ). get_or x 0 0) (same_line e) in
       let z : length (farm_of b).line + (j - length (farm_of b).line) ≡ j = omega arith in
-      sym (get_d_part b seats_at seats j k)
+      sym (get_or-part b seats_at seats j k)
       ∙ ap (λ (x : List ℕ). get_or (drop 1 x) j 0) (sym (same_line e))
       ∙ ap (λ (m : ℕ). get_or (padded l) m 0) (sym z)
       ∙ get_or-append-add l (replicate (seats - length l) 0) (j - length l) 0
@@ -109,13 +109,13 @@ module _ (b : List ℕ) (long : length b ≡ block_size) where
   unfolding marks_image marks_from
   marks_pass h =
       each_back is_one one (part b marks_at seats) 0
-      (λ i k. let m : i < seats = omega (arith, marks-seats b long) in bit (get_or (part b marks_at seats) i 0) (omega (arith, get_d_part b marks_at seats i m, h i m)))
+      (λ i k. let m : i < seats = omega (arith, marks-seats b long) in bit (get_or (part b marks_at seats) i 0) (omega (arith, get_or-part b marks_at seats i m, h i m)))
 
   pub marks_bits : MarksOk b → (i : ℕ) → i < seats → get_or b (marks_at + i) 0 ≤ 1
   unfolding marks_image marks_from
   marks_bits e i h =
       let x : ℕ = get_or (part b marks_at seats) i 0 in
-      omega (arith, back_each is_one one (part b marks_at seats) 0 e i (omega (arith, marks-seats b long)), small (is_one x), get_d_part b marks_at seats i h)
+      omega (arith, back_each is_one one (part b marks_at seats) 0 e i (omega (arith, marks-seats b long)), small (is_one x), get_or-part b marks_at seats i h)
 
   -- ---- the rows
 

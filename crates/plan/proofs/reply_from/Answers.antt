@@ -1,7 +1,5 @@
 -- `reply_from` meets its contract: each arm is the first tag that fits.
 -- Assumes nothing.
-use Prim.Native.Nat.{ℕ}
-use borrow.Author.Tests.{ne_eqb}
 use Rattle.plan.proofs.reply_from.Goals as goal
 
 pub returns-in-0 : goal.returns-in-0

@@ -1,7 +1,7 @@
 -- `rows::rows_before` meets its contract. The walk: the sum is the first row of the farm that comes next, and no farm so far added more than 256.
 -- Assumes nothing.
 use mathlib.Core.Path.{◌≡◌, ap, ◌∙◌, refl}
-use Prim.Native.Nat.{◌+◌, ◌-◌, ◌≤◌}
+use Prim.Native.Nat.{◌+◌}
 use native.Mathlib.Omega.{arith}
 use native.Mathlib.Numerals.{add-one}
 use Rattle.sheet.specs.Sheet.{farm_at}
