@@ -21,7 +21,7 @@ use Rattle.kinds.specs.declared.HeadVerdict.TheVariants.{Pending}
 use Rattle.model.specs.FarmSheet.{FarmSheet}
 use Rattle.model.specs.Row.{free_row, waiting_row, active_row, row_at, is_waiting_state, is_waiting, is_active, active_as, wanted, older, at_limit_state, at_limit}
 use Rattle.model.specs.Stream.{Taken}
-use Rattle.model.specs.Farm.{Farm, with_row, with_line, with_marks, Done, quietly, closed, closed_where}
+use Rattle.model.specs.Farm.{Farm, with_row, with_line, with_marks, Done, quietly, closed}
 use Rattle.model.specs.Line.{is_asked, is_marked, head_verdict, is_empty, started, advanced, joined, without, left_by, left, marked, answers_check}
 use Rattle.model.specs.Bytes.{heard_row, heard}
 use Rattle.model.specs.Move.{clock_run, aged}

@@ -1,6 +1,6 @@
 -- Case splits on a test, with the equation kept.
 -- Assumes nothing.
-use mathlib.Core.Path.{◌≡◌, refl, sym, ap, ◌∙◌}
+use mathlib.Core.Path.{◌≡◌, refl}
 use mathlib.Core.Bool.{Bool, true, false}
 use Rattle.octets.specs.Choice.{pick, unless}
 

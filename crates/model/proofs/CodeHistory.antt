@@ -1,12 +1,11 @@
 -- "The answer is the one the rules give at the moment of deciding.", of every call on the table, and along a history: whoever is answered
 -- is answered with the code that the rules then give.
 -- Assumes nothing.
-use Prim.Native.Nat.{ℕ, zero, suc, ◌+◌, ◌<◌}
+use Prim.Native.Nat.{ℕ, suc, ◌+◌, ◌<◌}
 use mathlib.Core.Path.{◌≡◌, refl, sym, subst}
-use mathlib.Core.Bool.{Bool, true, false}
 use mathlib.Core.Logic.{⊎_elim}
 use mathlib.Core.List.Memᴰ
-use mathlib.Core.List.{List, [], ◌∷◌, ◌++◌, Memᴰ}
+use mathlib.Core.List.{List, [], ◌∷◌, Memᴰ}
 use native.Mathlib.Omega.{arith}
 use lib.Dec.{ltb}
 use borrow.Author.Tests.{ltb-true}
@@ -14,7 +13,7 @@ use Rattle.kinds.specs.declared.Item.{Item}
 use Rattle.kinds.specs.declared.Reply.TheVariants.{Activation}
 use Rattle.sheet.specs.Sheet.{farm_count}
 use Rattle.model.specs.FarmSheet.{slot_sheet}
-use Rattle.model.specs.Move.{Own, Move, refused, gave, move, tick_move}
+use Rattle.model.specs.Move.{Move, refused, gave, move, tick_move}
 use Rattle.model.specs.Table.{Table, slot, Call, Lent, Whose, nobodys, farms, everyones, whose, Outcome, moved_to, items_by, slot_tick, tick_items, called, step, items_of, table_of}
 use Rattle.model.specs.History.{Made, step_of}
 use Rattle.model.specs.Words.{Answered, answers, entries_in, Reasoned, by_call, by_tick, Decided, here, later}

@@ -12,7 +12,6 @@ use lib.Dec.{eqb, leb}
 use lib.ListN.{get_or, length, take, length-take}
 use lib.Seq.{get_or-take}
 use borrow.Author.Tests.{eqb-true, eqb-false, lt-ltb}
-use Rattle.octets.specs.Choice.{both}
 use Rattle.octets.specs.Search.{first_at}
 use Rattle.octets.specs.declared.Found.{Found}
 use Rattle.octets.specs.declared.Found.TheVariants.{At, Nothing}

@@ -3,7 +3,7 @@
 use Prim.Native.Nat.{ℕ}
 use mathlib.Core.Path.{◌≡◌, refl, sym}
 use mathlib.Core.Bool.{Bool, true, false, false≢true}
-use mathlib.Core.List.{List, []}
+use mathlib.Core.List.{List}
 use lib.Dec.{eqb, leb}
 use lib.ListN.{length, take}
 use Rattle.octets.specs.Search.{count_if, first_at, same_list}
@@ -12,7 +12,6 @@ use Rattle.octets.specs.declared.Found.TheVariants.{At, Nothing}
 use Rattle.kinds.specs.declared.Answer.{Answer}
 use Rattle.kinds.specs.declared.DatagramVerdict.{DatagramVerdict}
 use Rattle.kinds.specs.declared.DatagramVerdict.TheVariants.{NotAnswered, Passes, Wrong}
-use Rattle.kinds.specs.declared.Item.{Item}
 use Rattle.kinds.specs.declared.Reply.TheVariants.{Message}
 use Rattle.layout.specs.FarmRecord.{eid_in, vin_in}
 use Rattle.wire.specs.Header.{header_at}
@@ -21,7 +20,7 @@ use Rattle.model.specs.FarmSheet.{FarmSheet}
 use Rattle.model.specs.Row.{row_at, is_free, is_open, active_as, at_limit}
 use Rattle.model.specs.Farm.{Farm, says, closed, closed_where}
 use Rattle.model.specs.Line.{left, settle}
-use Rattle.model.specs.Move.{Own, connect, bytes, peer_closed, link_lost, datagram, controller, Held, Move, refused, gave, connected_at, connects, peer_gone, link_gone, clock_run, aged, ticked, open_rows, answers, datagram_move, most_user, is_target, to_tester, controller_move, move, tick_move}
+use Rattle.model.specs.Move.{Own, connect, bytes, peer_closed, link_lost, datagram, controller, Held, Move, connected_at, connects, peer_gone, link_gone, clock_run, aged, ticked, open_rows, answers, datagram_move, most_user, is_target, to_tester, controller_move, move, tick_move}
 use Rattle.model.specs.HandsOn.{is_hand_on, hand_ons}
 use Rattle.model.specs.Table.{items_by}
 use Rattle.model.proofs.Cases.{pick_case, unless_case}

@@ -7,7 +7,6 @@ use mathlib.Core.Bool.{Bool, true}
 use mathlib.Core.List.{List, [], ◌∷◌, ◌++◌}
 use lib.Dec.{eqb}
 use lib.ListN.{set}
-use Rattle.octets.specs.Choice.{both}
 use Rattle.kinds.specs.declared.Request.{Request}
 use Rattle.kinds.specs.declared.Decision.{Decision}
 use Rattle.kinds.specs.declared.Decision.TheVariants.{Now, Ask}
@@ -15,7 +14,7 @@ use Rattle.kinds.specs.declared.RowState.TheVariants.{Waiting}
 use Rattle.kinds.specs.declared.Row.{Row}
 use Rattle.kinds.specs.declared.Item.{Item}
 use Rattle.model.specs.FarmSheet.{FarmSheet}
-use Rattle.model.specs.Row.{row_at, in_hand, active_as, waiting_row, wanted}
+use Rattle.model.specs.Row.{row_at, in_hand, waiting_row, wanted}
 use Rattle.model.specs.Farm.{Farm, with_row, with_line, Done, quietly, and_then, closed, closed_where}
 use Rattle.model.specs.Line.{accepted, asks, asked_if, asking, cleared, started_by, started, advanced, answered, socket_rules, joined, is_empty, without, left_by, left, marked, answers_check}
 use Rattle.model.proofs.Cases.{pick_case}

@@ -33,7 +33,7 @@ use Rattle.payload.specs.declared.Ends.{Ends}
 use Rattle.datagram.specs.Datagram.{datagram_verdict, payload_of, if_named, answer_by, answer_for, answer_to}
 use Rattle.model.specs.FarmSheet.{FarmSheet, TargetIs, stranger, unreachable, reachable}
 use Rattle.kinds.specs.Clock.{clock_of}
-use Rattle.model.specs.Row.{boundary, row_at, in_hand_at, in_hand_by, in_hand, is_open_state, is_open, is_free_state, is_free, is_waiting_state, is_waiting, active_as, at_limit_state, at_limit, older, older_state, heard_state}
+use Rattle.model.specs.Row.{boundary, row_at, in_hand_at, in_hand_by, in_hand, is_open_state, is_open, is_free_state, is_free, is_waiting_state, is_waiting, active_as, at_limit_state, at_limit, older, heard_state}
 use Rattle.model.specs.Stream.{Stream, Event, input_ended, wrong, finished, skipped, Taken}
 use Rattle.model.specs.Farm.{Farm, with_line, quietly, and_then, closed, closed_where}
 use Rattle.model.specs.Line.{decide, settle, cleared, left}

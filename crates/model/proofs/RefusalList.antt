@@ -30,8 +30,8 @@ use Rattle.sheet.specs.Test.{good_sheet}
 use Rattle.sheet.proofs.TestLaws.{good-says}
 use Rattle.model.specs.FarmSheet.{slot_sheet}
 use Rattle.model.specs.Row.{free_row, row_at, is_free, is_open, is_waiting, active_as}
-use Rattle.model.specs.Move.{Own, connect, bytes, peer_closed, link_lost, datagram, controller, Held, Move, refused, no_row, connected_at, connects, bytes_by, peer_gone, moves, datagram_move, most_user, is_target, to_tester, controller_move, move}
-use Rattle.model.specs.Table.{Table, slot, good_table, Call, connect_to, bytes_from, peer_closed_on, link_lost_of, tick, datagram_to, message_from, Lent, least_output, assembling_size, nobodys, farms, of_owner, whose, Outcome, refuses, did, moved_to, called, step, start_step, number_of, row_of, took_of, items_of, long_of, table_of}
+use Rattle.model.specs.Move.{Own, connect, bytes, peer_closed, link_lost, datagram, controller, Held, Move, refused, connected_at, connects, bytes_by, peer_gone, moves, datagram_move, most_user, is_target, to_tester, controller_move, move}
+use Rattle.model.specs.Table.{Table, slot, good_table, Call, connect_to, bytes_from, peer_closed_on, link_lost_of, tick, datagram_to, message_from, Lent, least_output, assembling_size, nobodys, farms, of_owner, whose, Outcome, refuses, moved_to, called, step, start_step, number_of}
 use Rattle.model.proofs.TableTest.{TableKeeps, table-says, FirstBroken, next, first_failed, Tests, none, also, first_broken}
 
 -- ---- a row that passes a test, among the first n of a list

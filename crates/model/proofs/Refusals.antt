@@ -1,15 +1,15 @@
 -- Demand 1, number by number: when each refusal is given, and that a refused call changes nothing.
 -- Assumes nothing.
 use Prim.{Unit}
-use Prim.Native.Nat.{ℕ, ◌≤◌, ◌<◌}
-use mathlib.Core.Path.{◌≡◌, refl, sym, ap, subst, ◌∙◌}
-use mathlib.Core.Bool.{Bool, true, false}
+use Prim.Native.Nat.{ℕ, ◌≤◌}
+use mathlib.Core.Path.{◌≡◌, refl, ap, ◌∙◌}
+use mathlib.Core.Bool.{true}
 use mathlib.Core.List.{List, []}
 use mathlib.Core.Logic.{◌↔◌}
 use Rattle.octets.proofs.SaysLaws.{never}
 use Rattle.sheet.specs.declared.rows.Owner.{Owner}
 use Rattle.sheet.specs.declared.rows.Owner.TheVariants.{Seat, Nobody}
-use Rattle.sheet.specs.Sheet.{farm_count, farm_no}
+use Rattle.sheet.specs.Sheet.{farm_count}
 use Rattle.sheet.specs.Rows.{owner_of}
 use Rattle.sheet.specs.Rules.{GoodSheet}
 use Rattle.sheet.proofs.RowsLaws.{IsSeat, owner_seat, seat_owner}

@@ -1,21 +1,16 @@
 -- Laws of doing one thing after another, and of going through the seats.
 -- Assumes nothing.
-use Prim.Native.Nat.{ℕ, zero, suc, ◌+◌, ◌≤◌, ◌<◌}
-use mathlib.Core.Path.{◌≡◌, refl, sym, ap, subst, ◌∙◌}
-use mathlib.Core.Bool.{Bool, true, false}
-use mathlib.Core.List.{List, [], ◌∷◌, ◌++◌, append_assoc, append-nil}
-use native.Mathlib.Omega.{arith}
-use lib.ListN.{get_or, set, length, length-set}
-use Rattle.octets.specs.Choice.{pick}
+use Prim.Native.Nat.{ℕ, zero, suc, ◌+◌}
+use mathlib.Core.Path.{◌≡◌, refl}
+use mathlib.Core.Bool.{Bool, true}
+use mathlib.Core.List.{◌++◌}
+use lib.ListN.{set}
 use Rattle.octets.specs.Fold.{up_to}
-use Rattle.kinds.specs.declared.Item.{Item}
 use Rattle.kinds.specs.declared.Row.{Row}
-use Rattle.kinds.specs.declared.Reply.TheVariants.{Close}
 use Rattle.model.specs.FarmSheet.{FarmSheet}
 use Rattle.model.specs.Row.{free_row, row_at}
-use Rattle.model.specs.Farm.{Farm, Done, does, quietly, and_then, each_seat, seat_count, with_row, says, closed, closed_if, closed_where}
-use Rattle.model.proofs.Cases.{pick_case, split}
-use Rattle.model.proofs.Rows.{row-set}
+use Rattle.model.specs.Farm.{Farm, Done, quietly, and_then, each_seat, seat_count, closed, closed_if, closed_where}
+use Rattle.model.proofs.Cases.{pick_case}
 
 -- ---- one thing, then another
 

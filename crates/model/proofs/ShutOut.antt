@@ -28,7 +28,7 @@ use Rattle.model.specs.FarmSheet.{FarmSheet, farm_sheet, slot_sheet}
 use Rattle.kinds.specs.Clock.{check_limit}
 use Rattle.model.specs.Row.{no_head, free_row, row_at, is_free, is_active, is_active_state, active_as, heard_state}
 use Rattle.model.specs.Farm.{Farm, seat_count, new_farm, and_then, says, closed}
-use Rattle.model.specs.Line.{accepted, by_holder, socket_rules, by_state, decide, answered}
+use Rattle.model.specs.Line.{by_holder, socket_rules, by_state, decide, answered}
 use Rattle.model.specs.Bytes.{decided_by, requested}
 use Rattle.model.specs.Move.{Held, connected_at, connects, move}
 use Rattle.model.specs.RuleTest.{every_seat, seat_keeps, good_farm}

@@ -1,18 +1,15 @@
 -- Rows stay tidy: what means nothing keeps its one value.
 -- Assumes nothing.
-use Prim.Native.Nat.{ℕ, zero, suc, ◌+◌, ◌-◌, ◌≤◌, ◌<◌}
+use Prim.Native.Nat.{ℕ, zero, suc, ◌+◌, ◌-◌, ◌<◌}
 use mathlib.Core.Path.{◌≡◌, refl, sym, ap, ◌∙◌}
 use mathlib.Core.Bool.{Bool, true, false, false≢true}
 use mathlib.Core.List.{List, [], ◌∷◌, map}
-use native.Mathlib.Nat.{not-suc-le-zero}
 use native.Mathlib.Numerals.{add-one}
 use native.Mathlib.Omega.{arith}
 use lib.Dec.{eqb, ltb}
-use lib.ListN.{length, drop, set, replicate, length-set, length-replicate}
+use lib.ListN.{length, drop, set, replicate, length-set}
 use borrow.Author.Tests.{ltb-true}
 use Rattle.octets.specs.Choice.{pick}
-use Rattle.kinds.specs.declared.Clock.{Clock}
-use Rattle.kinds.specs.declared.Request.{Request}
 use Rattle.kinds.specs.declared.RowState.{RowState}
 use Rattle.kinds.specs.declared.RowState.TheVariants.{Free, Fresh, Waiting, Active}
 use Rattle.kinds.specs.declared.Place.{Place}
@@ -21,13 +18,8 @@ use Rattle.kinds.specs.declared.Row.{Row}
 use Rattle.kinds.specs.declared.Fault.{Fault}
 use Rattle.kinds.specs.declared.Verdict.{Verdict}
 use Rattle.kinds.specs.declared.Verdict.TheVariants.{Passes, Wrong}
-use Rattle.kinds.specs.declared.Decision.{Decision}
-use Rattle.kinds.specs.declared.Decision.TheVariants.{Now, Ask}
-use Rattle.kinds.specs.declared.HeadVerdict.{HeadVerdict}
-use Rattle.kinds.specs.declared.HeadVerdict.TheVariants.{Pending, Answer, RunOut}
 use Rattle.wire.specs.Header.{header_size, header_at, verdict_of, closes}
-use Rattle.model.specs.FarmSheet.{FarmSheet}
-use Rattle.model.specs.Row.{no_head, boundary, row_of, free_row, row_at, is_free_state, is_free, older_state, older, heard_state}
+use Rattle.model.specs.Row.{no_head, row_of, free_row, row_at, is_free_state, is_free, older_state, older, heard_state}
 use Rattle.model.specs.Bytes.{heard_row}
 use Rattle.model.specs.Stream.{Stream, stream_of, rested, finished, skipped, Fed, more, ends, judged, after_wrong, header_byte, stored_in, feed_at, feed, takes_by, takes}
 use Rattle.model.specs.Rule.{TidyAt, Tidy}

@@ -1,6 +1,6 @@
 -- A bytes call of one farm: what is taken, and what the message that it finishes brings about.
 -- Assumes nothing: these are definitions.
-use Rattle.std.specs.Prelude.{ℕ, Bool, List, [], ◌∷◌, eqb, take}
+use Rattle.std.specs.Prelude.{ℕ, List, [], ◌∷◌, eqb, take}
 use Rattle.octets.specs.Choice.{pick}
 use Rattle.kinds.specs.declared.Fault.{Fault}
 use Rattle.kinds.specs.declared.Request.{Request}

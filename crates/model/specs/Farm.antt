@@ -1,6 +1,6 @@
 -- One farm as a machine: what it holds, and what it does when a row closes.
 -- Assumes nothing: these are definitions.
-use Rattle.std.specs.Prelude.{ℕ, ◌+◌, ◌%◌, ◌^◌, Bool, true, false, List, [], ◌∷◌, ◌++◌, set, replicate}
+use Rattle.std.specs.Prelude.{ℕ, ◌+◌, ◌%◌, ◌^◌, Bool, false, List, [], ◌∷◌, ◌++◌, set, replicate}
 use Rattle.octets.specs.Choice.{pick}
 use Rattle.octets.specs.Fold.{up_to}
 use Rattle.kinds.specs.declared.Clock.{Clock}

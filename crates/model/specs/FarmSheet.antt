@@ -1,6 +1,6 @@
 -- What one farm has of the farm sheet: all that its rules ever look at.
 -- Assumes nothing: these are definitions.
-use Rattle.std.specs.Prelude.{ℕ, Bool, true, false, List, [], eqb, ltb}
+use Rattle.std.specs.Prelude.{ℕ, Bool, false, List, [], eqb, ltb}
 use Rattle.octets.specs.Choice.{pick}
 use Rattle.sheet.specs.declared.find.Found.{Found}
 use Rattle.sheet.specs.declared.find.Found.TheVariants.{Is, Nobody}

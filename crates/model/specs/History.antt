@@ -1,13 +1,12 @@
 -- Histories: calls from a fresh table, under one sheet, "each call gets the table and assembling buffer that the call before it left".
 -- Assumes nothing: these are definitions.
-use Rattle.std.specs.Prelude.{ℕ, suc, ◌+◌, Bool, true, false, List, [], ◌∷◌, ◌++◌, eqb, leb, ltb}
+use Rattle.std.specs.Prelude.{ℕ, ◌+◌, Bool, false, List, [], ◌∷◌, eqb, leb, ltb}
 use Rattle.std.proofs.Math.Option.{Option, none, some}
 use Rattle.octets.specs.Choice.{pick, both}
 use Rattle.kinds.specs.declared.Item.{Item}
 use Rattle.kinds.specs.declared.Meters.{Meters}
 use Rattle.model.specs.FarmSheet.{FarmSheet, slot_sheet}
 use Rattle.model.specs.Farm.{new_farm}
-use Rattle.model.specs.Move.{Own, Held}
 use Rattle.model.specs.Table.{Table, slot, Call, Lent, Whose, nobodys, farms, everyones, whose, Outcome, step, number_of, row_of, took_of, items_of, long_of, table_of}
 
 -- a call with what is lent to it

@@ -3,7 +3,7 @@
 use Rattle.std.specs.Prelude.{ℕ, Bool, true, false, List, [], ◌∷◌, ◌++◌, eqb, leb, get_or, set}
 use Rattle.octets.specs.declared.Found.{Found}
 use Rattle.octets.specs.declared.Found.TheVariants.{At, Nothing}
-use Rattle.octets.specs.Choice.{pick, both, either, unless}
+use Rattle.octets.specs.Choice.{pick, both, unless}
 use Rattle.octets.specs.Search.{first_at, count_if}
 use Rattle.octets.specs.Fold.{up_to}
 use Rattle.kinds.specs.declared.Request.{Request}

@@ -1,17 +1,15 @@
 -- The calls of one farm.
 -- Assumes nothing: these are definitions.
-use Rattle.std.specs.Prelude.{ℕ, ◌+◌, Bool, true, false, List, [], ◌∷◌, map, eqb, leb, length, get_or, set, take}
+use Rattle.std.specs.Prelude.{ℕ, ◌+◌, Bool, true, false, List, [], ◌∷◌, map, leb, length, get_or, set, take}
 use Rattle.octets.specs.declared.Found.{Found}
 use Rattle.octets.specs.declared.Found.TheVariants.{At, Nothing}
 use Rattle.octets.specs.Choice.{pick, unless}
 use Rattle.octets.specs.Search.{first_at, count_if}
 use Rattle.kinds.specs.declared.RowState.{RowState}
 use Rattle.kinds.specs.declared.RowState.TheVariants.{Free, Fresh, Waiting, Active}
-use Rattle.kinds.specs.declared.Row.{Row}
 use Rattle.kinds.specs.declared.Item.{Item}
 use Rattle.kinds.specs.declared.Answer.{Answer}
 use Rattle.kinds.specs.declared.Answer.TheVariants.{Nothing as NoAnswer, With}
-use Rattle.kinds.specs.declared.Reply.{Reply}
 use Rattle.kinds.specs.declared.Reply.TheVariants.{Message}
 use Rattle.wire.specs.Header.{our_version}
 use Rattle.datagram.specs.Datagram.{answer_to}
@@ -19,7 +17,7 @@ use Rattle.model.specs.FarmSheet.{FarmSheet, TargetIs, stranger, unreachable, re
 use Rattle.kinds.specs.Clock.{stepped}
 use Rattle.model.specs.Row.{row_at, fresh_row, is_free, is_open, active_as, older, at_limit}
 use Rattle.model.specs.Stream.{Taken}
-use Rattle.model.specs.Farm.{Farm, with_row, with_rows, with_clock, with_line, Done, does, quietly, and_then, says, closed, closed_where}
+use Rattle.model.specs.Farm.{Farm, with_row, with_rows, with_clock, with_line, Done, quietly, and_then, says, closed, closed_where}
 use Rattle.model.specs.Line.{settle, left, cleared}
 use Rattle.model.specs.Bytes.{taken_by, payload_by, bytes_done}
 

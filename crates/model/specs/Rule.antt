@@ -1,11 +1,9 @@
 -- "A table breaks the rules if: ..": rule 4 for one farm, a field for each rule.
 -- Assumes nothing: these are definitions.
-use Rattle.std.specs.Prelude.{ℕ, ◌-◌, ◌≤◌, ◌<◌, ◌≡◌, Bool, true, false, ◌⊎◌, List, [], ◌∷◌, eqb, length, drop, replicate}
+use Rattle.std.specs.Prelude.{ℕ, ◌-◌, ◌≤◌, ◌<◌, ◌≡◌, true, false, ◌⊎◌, List, [], ◌∷◌, eqb, length, drop, replicate}
 use Prim.{Unit}
 use Rattle.octets.specs.Choice.{one}
 use Rattle.octets.specs.Search.{count_if}
-use Rattle.kinds.specs.declared.Clock.{Clock}
-use Rattle.kinds.specs.declared.Request.{Request}
 use Rattle.kinds.specs.declared.RowState.{RowState}
 use Rattle.kinds.specs.declared.RowState.TheVariants.{Free, Fresh, Waiting, Active}
 use Rattle.kinds.specs.declared.Place.{Place}
@@ -17,7 +15,7 @@ use Rattle.kinds.specs.declared.HeadVerdict.TheVariants.{Pending}
 use Rattle.wire.specs.Header.{header_size, header_at, verdict_of}
 use Rattle.model.specs.FarmSheet.{FarmSheet}
 use Rattle.kinds.specs.Clock.{check_limit}
-use Rattle.model.specs.Row.{boundary, no_head, row_at, is_free, is_open, is_waiting, is_active, active_as, at_limit}
+use Rattle.model.specs.Row.{boundary, row_at, is_free, is_open, is_waiting, is_active, active_as, at_limit}
 use Rattle.model.specs.Farm.{Farm, seat_count}
 use Rattle.model.specs.Line.{is_marked, is_asked, head_verdict}
 

@@ -16,7 +16,7 @@ use Rattle.kinds.specs.declared.Row.{Row}
 use Rattle.kinds.specs.declared.HeadVerdict.{HeadVerdict}
 use Rattle.kinds.specs.declared.HeadVerdict.TheVariants.{Pending, Answer, RunOut}
 use Rattle.wire.specs.Header.{header_size, header_at, verdict_of}
-use Rattle.model.specs.FarmSheet.{FarmSheet, slot_sheet}
+use Rattle.model.specs.FarmSheet.{FarmSheet}
 use Rattle.kinds.specs.Clock.{check_limit}
 use Rattle.model.specs.Row.{row_at, is_free, is_open, is_waiting, is_active, active_as, at_limit}
 use Rattle.model.specs.Farm.{Farm, seat_count}

@@ -1,16 +1,16 @@
 -- The table of all farms, and one call on it.
 -- Assumes nothing: these are definitions.
-use Rattle.std.specs.Prelude.{ℕ, zero, suc, Bool, true, false, List, [], ◌∷◌, ◌++◌, map, eqb, leb, ltb, length, get_or, set, replicate}
+use Rattle.std.specs.Prelude.{ℕ, suc, Bool, true, List, [], ◌∷◌, ◌++◌, map, eqb, leb, ltb, get_or, set}
 use Rattle.octets.specs.Choice.{pick, both, unless}
 use Rattle.kinds.specs.declared.Item.{Item}
 use Rattle.sheet.specs.declared.rows.Owner.{Owner}
 use Rattle.sheet.specs.declared.rows.Owner.TheVariants.{Seat, Nobody}
-use Rattle.sheet.specs.Sheet.{most_farms, most_rows, farm_count}
+use Rattle.sheet.specs.Sheet.{farm_count}
 use Rattle.sheet.specs.Rows.{owner_of}
 use Rattle.sheet.specs.Test.{good_sheet}
-use Rattle.model.specs.FarmSheet.{FarmSheet, slot_sheet}
-use Rattle.model.specs.Farm.{Farm, new_farm}
-use Rattle.model.specs.Move.{Own, connect, bytes, peer_closed, link_lost, datagram, controller, Held, Given, Move, refused, gave, no_row, move, tick_move}
+use Rattle.model.specs.FarmSheet.{slot_sheet}
+use Rattle.model.specs.Farm.{new_farm}
+use Rattle.model.specs.Move.{Own, connect, bytes, peer_closed, link_lost, datagram, controller, Held, Move, refused, gave, no_row, move, tick_move}
 use Rattle.model.specs.RuleTest.{good_farm}
 
 -- one slot for each farm that a sheet can have

@@ -6,9 +6,7 @@ use Prim.Native.Nat.{ℕ, ◌+◌, ◌*◌, ◌/◌, ◌%◌, ◌<◌}
 use native.Mathlib.Omega.{arith}
 use lib.ListN.{length, get_or, drop, take-append-drop}
 use lib.Seq.{drop-drop}
-use lib.Dec.{eqb}
-use borrow.Author.Tests.{eqb-true, eq-eqb, ne_eqb}
-use Rattle.octets.specs.Says.{Says}
+use borrow.Author.Tests.{ne_eqb}
 use Rattle.octets.specs.Numbers.{u16_at, u32_at, be16, be32}
 use Rattle.octets.specs.Parts.{part}
 use Rattle.octets.proofs.PartsLaws.{length_part, same_front}

@@ -4,10 +4,9 @@ use mathlib.Core.Path.{◌≡◌, refl, sym, ap, ◌∙◌}
 use native.Mathlib.Omega.{arith}
 use lib.ListN.{length}
 use Rattle.sheet.specs.declared.rows.Owner.TheVariants.{Seat}
-use Rattle.sheet.specs.Sheet.{farm_count}
 use Rattle.sheet.specs.Rows.{owner_of}
 use Rattle.sheet.proofs.LengthLaws.{good_lengths}
-use Rattle.sheet.proofs.RowsLaws.{IsSeat, owner_seat}
+use Rattle.sheet.proofs.RowsLaws.{owner_seat}
 use Rattle.model.specs.Move.{bytes}
 use Rattle.model.specs.Table.{least_output, bytes_from, whose}
 use Rattle.table.specs.Layout.{table_size}
@@ -18,7 +17,6 @@ use Rattle.sheet.specs.declared.rows.Owner.{Owner}
 use Rattle.lent.specs.Gate.{Passed, gate_number}
 use Rattle.lent.proofs.GateLaws.{gate_passes}
 use Rattle.lent.proofs.CallLaws.{refused_as, gate_served}
-use Rattle.serve.specs.Ready.{Ready}
 use Rattle.serve.proofs.MovedLaws.{ready_below}
 use Rattle.serve.proofs.ServeLaws.{ready_of, row_unknown}
 use Rattle.call_bytes.proofs.BytesLaws.{bytes-closed, bytes-waits, bytes-served}

@@ -2,14 +2,13 @@
 -- Assumes nothing.
 use mathlib.Core.Path.{◌≡◌, sym, ap, ◌∙◌}
 use mathlib.Core.List.{List}
-use Prim.Native.Nat.{ℕ, ◌-◌, ◌≤◌}
+use Prim.Native.Nat.{ℕ, ◌-◌}
 use native.Mathlib.Omega.{arith}
 use lib.ListN.{length, drop, take, length-drop}
 use lib.Seq.{take_all}
-use Rattle.kinds.specs.declared.DatagramVerdict.TheVariants.{Passes}
 use Rattle.wire.specs.declared.header.Header.{Header}
 use Rattle.wire.specs.Header.{header_at}
-use Rattle.datagram.specs.Datagram.{datagram_verdict, answer_by, answer_to}
+use Rattle.datagram.specs.Datagram.{answer_by, answer_to}
 use Rattle.datagram.proofs.DatagramLaws.{passes-long}
 use Rattle.datagram_answer.proofs.answer.Goals as goal
 

@@ -1,9 +1,7 @@
 -- `put_message` meets its contract: the head with the message's length, then the message.
 -- Assumes nothing.
-use mathlib.Core.Path.{◌≡◌, refl, sym}
-use Prim.Native.Nat.{◌+◌}
+use mathlib.Core.Path.{refl, sym}
 use native.Mathlib.Omega.{arith}
-use lib.ListN.{length}
 use Rattle.layout.specs.Layout.{message_bytes}
 use Rattle.layout.proofs.MessageLaws.{length-message}
 use Rattle.outsheet.proofs.SheetLaws.{entered}

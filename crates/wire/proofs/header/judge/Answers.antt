@@ -2,7 +2,7 @@
 -- Assumes nothing.
 use mathlib.Core.Path.{◌≡◌, sym, ◌∙◌}
 use mathlib.Core.Bool.{true}
-use borrow.Author.Tests.{ne_eqb, eq-eqb, not-false, lt-leb, le-leb}
+use borrow.Author.Tests.{ne_eqb, eq-eqb, lt-leb, le-leb}
 use Rattle.wire.specs.declared.header.Header.{Header}
 use Rattle.wire.specs.Header.{verdict_of, right_pattern}
 use Rattle.wire.proofs.HeaderLaws.{everyday-passes}
