@@ -1,13 +1,13 @@
 -- What the three numbers are good for: the line's rules say the same of them as of the whole sheet, and a row's number is a byte.
 -- Assumes nothing.
 use Prim.Native.Nat.{ℕ, ◌+◌, ◌<◌, ◌≤◌}
-use mathlib.Core.Path.{◌≡◌, refl, sym, ap, ◌∙◌}
+use mathlib.Core.Path.{◌≡◌, ap}
 use mathlib.Core.List.{List}
 use native.Mathlib.Omega.{arith}
 use Rattle.kinds.specs.declared.Site.{Site}
-use Rattle.sheet.specs.Sheet.{most_rows, farm_count, entity_of, quota_of}
+use Rattle.sheet.specs.Sheet.{most_rows, entity_of, quota_of}
 use Rattle.sheet.specs.Rows.{first_row, rows_owned}
-use Rattle.model.specs.FarmSheet.{FarmSheet, farm_sheet}
+use Rattle.model.specs.FarmSheet.{farm_sheet}
 use Rattle.model.proofs.SameSite.{SameSite}
 use Rattle.sheet.proofs.RowsLaws.{first_few, owned_few, rows-within, rows_few}
 use Rattle.table.specs.Layout.{seats}

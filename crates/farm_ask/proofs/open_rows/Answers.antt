@@ -2,8 +2,7 @@
 -- Assumes nothing.
 use mathlib.Core.Path.{sym, ◌∙◌}
 use mathlib.Core.List.{List}
-use mathlib.Core.Logic.{⊎_elim}
-use Prim.Native.Nat.{◌-◌, ◌<◌}
+use Prim.Native.Nat.{◌<◌}
 use native.Mathlib.Omega.{arith}
 use lib.ListN.{length}
 use Rattle.octets.proofs.SearchLaws.{count-here, count_next, count_end}
@@ -32,6 +31,6 @@ loop-i-preserved c =
     let h : l.i < length rows = omega (arith, nine c.args.b.now) in
     let e = sym c.is_open.ensures in
     elim c.if-is_open.branch [
-      then-is_open w ↦ (let k = count-here is_open rows l.i free_row h (e ∙ w.if-is_open.true) in (omega (arith, k, w.n-is), omega arith, omega (arith, w.n-is)))
-    | else-is_open w ↦ (let k = count_next is_open rows l.i free_row h (e ∙ w.if-is_open.false) in (omega (arith, k, w.n-is), omega arith, omega (arith, w.n-is)))
+      | then-is_open w ↦ (let k = count-here is_open rows l.i free_row h (e ∙ w.if-is_open.true) in (omega (arith, k, w.n-is), omega arith, omega (arith, w.n-is)))
+      | else-is_open w ↦ (let k = count_next is_open rows l.i free_row h (e ∙ w.if-is_open.false) in (omega (arith, k, w.n-is), omega arith, omega (arith, w.n-is)))
     ]

@@ -2,11 +2,10 @@
 -- Assumes nothing.
 use mathlib.Core.Path.{sym, ◌∙◌}
 use mathlib.Core.List.{List}
-use Prim.Native.Nat.{ℕ, ◌-◌, ◌≤◌, ◌<◌}
+use Prim.Native.Nat.{ℕ, ◌≤◌, ◌<◌}
 use native.Mathlib.Omega.{arith}
 use lib.ListN.{length, get_or}
 use Rattle.table.specs.Block.{farm_of}
-use mathlib.Core.Logic.{⊎_elim}
 use lib.Dec.{eqb}
 use borrow.Author.Tests.{eq-eqb, ne_eqb}
 use Rattle.octets.proofs.SearchLaws.{count-here, count_next, count_end}
@@ -35,10 +34,10 @@ loop-k-preserved c =
     let h : l.k < length line = omega (arith, l.invariant.2, c.loop-k-test.true) in
     let e = c.seat_at.ensures in
     elim c.if-i-seat_at.branch [
-      then-i-seat_at w ↦
-        (let n = count-here (eqb s.i) line l.k 0 h (eq-eqb s.i (get_or line l.k 0) (w.if-i-seat_at.true ∙ e)) in
-        (omega (arith, n, l.invariant.0, w.sum-is), omega arith, l.invariant.2, omega (arith, w.sum-is)))
-    | else-i-seat_at w ↦
-        (let n = count_next (eqb s.i) line l.k 0 h (ne_eqb s.i (get_or line l.k 0) (λ z. w.if-i-seat_at.false (z ∙ sym e))) in
-        (omega (arith, n, l.invariant.0, w.sum-is), omega arith, l.invariant.2, omega (arith, w.sum-is)))
+      | then-i-seat_at w ↦
+          (let n = count-here (eqb s.i) line l.k 0 h (eq-eqb s.i (get_or line l.k 0) (w.if-i-seat_at.true ∙ e)) in
+          (omega (arith, n, l.invariant.0, w.sum-is), omega arith, l.invariant.2, omega (arith, w.sum-is)))
+      | else-i-seat_at w ↦
+          (let n = count_next (eqb s.i) line l.k 0 h (ne_eqb s.i (get_or line l.k 0) (λ z. w.if-i-seat_at.false (z ∙ sym e))) in
+          (omega (arith, n, l.invariant.0, w.sum-is), omega arith, l.invariant.2, omega (arith, w.sum-is)))
     ]

@@ -2,14 +2,13 @@
 -- Assumes nothing.
 use mathlib.Core.Path.{◌≡◌, sym, ap, ◌∙◌}
 use mathlib.Core.List.{List}
-use Prim.Native.Nat.{ℕ, ◌-◌, ◌<◌}
+use Prim.Native.Nat.{ℕ, ◌<◌}
 use native.Mathlib.Omega.{arith}
 use lib.ListN.{length}
 use Rattle.octets.specs.Parts.{part}
 use Rattle.table.specs.Layout.{seats, seats_at}
 use Rattle.table_line.proofs.LineStores.{few, Kept, kept-none, kept_few, kept_drops, kept_keeps, left-stored, kept_as}
 use Rattle.octets.proofs.PartsLaws.{length_part}
-use mathlib.Core.Logic.{⊎_elim}
 use mathlib.Core.Path.{subst}
 use Rattle.table_line.proofs.leave.Goals as goal
 use Rattle.table_line.proofs.leave.Goals.{then-wide-seat, else-wide-seat}
