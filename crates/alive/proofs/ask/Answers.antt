@@ -1,7 +1,6 @@
 -- `ask` meets its contract.
 -- Assumes nothing.
 use mathlib.Core.Path.{sym, ◌∙◌}
-use Prim.Native.Nat.{◌-◌}
 use native.Mathlib.Omega.{arith}
 use Rattle.model.specs.Farm.{seat_count}
 use Rattle.closing.proofs.DidLaws.{did_start, did_seat, did-all}

@@ -32,7 +32,7 @@ returns-then-c-ge-CHECK c =
     ap (λ (m : List Bool). all_answered s.check m f.rows) (sym c.marks_at-m.ensures) ∙ sym c.all_answered.ensures ∙ c.if-all_answered.false
     in
     let t = ap (λ (x : Clock). x.ticks) c.clock_at-c.ensures in
-    let h : check_limit ≤ f.clock.ticks = omega (arith, t, c.if-c-ge-CHECK.true) in
+    let h : check_limit ≤ f.clock.ticks = omega (arith, t) in
     simp (e, le-leb _ _ h)
 
 pub returns : goal.returns
@@ -44,5 +44,5 @@ returns c =
     ap (λ (m : List Bool). all_answered s.check m f.rows) (sym c.marks_at-m.ensures) ∙ sym c.all_answered.ensures ∙ c.if-all_answered.false
     in
     let t = ap (λ (x : Clock). x.ticks) c.clock_at-c.ensures in
-    let h : f.clock.ticks < check_limit = omega (arith, t, c.if-c-ge-CHECK.false) in
+    let h : f.clock.ticks < check_limit = omega (arith, t) in
     simp (e, lt-leb _ _ h)

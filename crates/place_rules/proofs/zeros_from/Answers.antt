@@ -2,7 +2,6 @@
 -- Assumes nothing.
 use borrow.Author.Rules.{rules}
 use mathlib.Core.Path.{◌≡◌, sym}
-use Prim.Native.Nat.{◌-◌}
 use lib.ListN.{length}
 use Rattle.wire.specs.Header.{header_size}
 use Rattle.place_rules.proofs.PlaceLaws.{zeros_start, zeros_next, zeros_differ, zeros_end}

@@ -1,7 +1,6 @@
 -- `again_after` meets its contract.
 -- Assumes nothing.
 use mathlib.Core.Path.{refl, sym, ◌∙◌}
-use Prim.Native.Nat.{◌-◌}
 use native.Mathlib.Omega.{arith}
 use Rattle.octets.proofs.SearchLaws.{some-here, some_next, some_end}
 use Rattle.model.specs.Row.{free_row, active_as}

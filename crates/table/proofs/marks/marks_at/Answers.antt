@@ -1,6 +1,5 @@
 -- `marks::marks_at` meets its contract.
 -- Assumes nothing.
-use Prim.Native.Nat.{◌-◌}
 use native.Mathlib.Omega.{arith}
 use Rattle.table.proofs.MarkLaws.{read_none, read_more, read_all}
 use Rattle.table.proofs.marks.marks_at.Goals as goal
