@@ -11,6 +11,7 @@ use Rattle.table.specs.Block.{farm_of}
 use Rattle.decide.specs.SiteSheet.{site_sheet}
 use Rattle.site.proofs.SiteLaws.{sited_same}
 use Rattle.request.proofs.RequestLaws.{decide_nobody, decide_other, decide_type, decide_state, state_same}
+use native.Mathlib.Omega.{arith}
 use Rattle.request.proofs.decision.Goals as goal
 
 pub find_tester-requires : goal.find_tester-requires
@@ -26,7 +27,7 @@ returns-then-not-ours c =
 pub returns-then-not-right_type : goal.returns-then-not-right_type
 returns-then-not-right_type c =
     decide_type c.args.s.now c.args.f.0 (farm_of c.args.b.now).rows c.args.seat c.args.q (sym c.find_tester.ensures ∙ c.in-Is.is)
-    (eq-eqb _ _ c.if-not-ours.false) (lt-leb _ _ c.if-not-right_type.true)
+    (eq-eqb _ _ (omega arith)) (lt-leb _ _ c.if-not-right_type.true)
 
 pub returns : goal.returns
 returns c =
