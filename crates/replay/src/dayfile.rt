@@ -225,11 +225,19 @@ fn ending(r: Turn) -> Ending {
     Ending::Cut(r.base)
 }
 
+// The file can't be read: it is named. Whatever could be opened has a text for its name.
+fn unread<R: Eprint>(rt: &R, path: &[u8], error: io::Error) {
+    match str::from_utf8(path) {
+        Ok(name) => fail(rt, name, error),
+        Err(_) => fail(rt, "", error),
+    }
+}
+
 // One read and what it completes.
 fn read_on<R: Print + Eprint, F: Read>(
     rt: &R,
     file: &mut F,
-    path: &str,
+    path: &[u8],
     buf: &mut [u8],
     r: Turn,
     sheet: &mut [u8],
@@ -245,7 +253,7 @@ fn read_on<R: Print + Eprint, F: Read>(
     let f = refill(file, buf, have);
     match f {
         Fill::Failed(e) => {
-            fail(rt, path, e);
+            unread(rt, path, e);
             stopped(r)
         }
         Fill::End => {
@@ -273,7 +281,7 @@ fn text_space() -> [u8; 262144]
 
 // A proved loop has to end, and nothing says that a file does: the turns are counted down. The buffer is twice the longest record, so
 // that there is always room to read into.
-pub fn play<R: Print + Eprint, F: Read>(rt: &R, file: &mut F, path: &str, in_words: bool) {
+pub fn play<R: Print + Eprint, F: Read>(rt: &R, file: &mut F, path: &[u8], in_words: bool) {
     let mut buf_space = space();
     let buf: &mut [u8] = &mut buf_space;
     let mut sheet_space = space();

@@ -57,7 +57,7 @@ fn play<R: Files + Print + Eprint, E: Print>(rt: &R, errors: &E, path: &[u8], in
         return;
     };
     match fs::open(rt, name) {
-        Ok(mut file) => dayfile::play(rt, &mut file, name, in_words),
+        Ok(mut file) => dayfile::play(rt, &mut file, path, in_words),
         Err(e) => fail(rt, name, e),
     }
 }
