@@ -1,5 +1,6 @@
 -- What a bytes call has done is the call's outcome.
 -- Assumes nothing.
+use Rattle.std.proofs.Common.{Some}
 use Prim.Native.Nat.{ℕ, ◌+◌, ◌-◌, ◌*◌, ◌≤◌, ◌<◌}
 use mathlib.Core.Path.{◌≡◌, refl, sym, ap, ◌∙◌, subst}
 use mathlib.Core.Bool.{true, false}
@@ -14,7 +15,6 @@ use Rattle.octets.proofs.PutLaws.{drop-put_at}
 use Rattle.octets.proofs.SaysLaws.{never}
 use Rattle.kinds.specs.declared.RowState.{RowState}
 use Rattle.kinds.specs.declared.RowState.TheVariants.{Free, Fresh, Waiting, Active}
-use Rattle.sheet.specs.declared.rows.Owner.TheVariants.{Seat}
 use Rattle.sheet.specs.Sheet.{farm_count, farm_no}
 use Rattle.sheet.specs.Rows.{first_row, rows_owned, rows_in, owner_of}
 use Rattle.sheet.proofs.RowsLaws.{rows-within, owner_seat}
@@ -141,7 +141,7 @@ module _ (s t out m : List ℕ) (p : Passed s t out m) (long : length t ≡ tabl
       (own_room s t m f seat has mine)
 
 -- the row is a farm's
-module _ (s t out m : List ℕ) (p : Passed s t out m) (long : length t ≡ table_size) (row f seat : ℕ) (input : List ℕ) (o : owner_of s row ≡ Seat (farm_no f) seat) where
+module _ (s t out m : List ℕ) (p : Passed s t out m) (long : length t ≡ table_size) (row f seat : ℕ) (input : List ℕ) (o : owner_of s row ≡ Some (farm_no f, seat)) where
   has : f < farm_count s
   has = (owner_seat s row f seat o).farm_within
 

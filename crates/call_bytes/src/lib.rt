@@ -25,8 +25,7 @@ pub fn bytes(
     if 0 < n {
         return finish::refused(n);
     }
-    let owner = rows::owner_of(s, row);
-    let rows::Owner::Seat(f, k) = owner else {
+    let Some((f, k)) = rows::owner_of(s, row) else {
         return finish::refused(6);
     };
     let seat = octets::wide(k);

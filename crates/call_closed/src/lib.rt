@@ -18,8 +18,7 @@ pub fn peer_closed(s: &[u8], t: &mut [u8; TABLE], out: &mut [u8], m: &[u8], row:
     if 0 < n {
         return finish::refused(n);
     }
-    let owner = rows::owner_of(s, row);
-    let rows::Owner::Seat(f, k) = owner else {
+    let Some((f, k)) = rows::owner_of(s, row) else {
         return finish::refused(6);
     };
     let seat = octets::wide(k);

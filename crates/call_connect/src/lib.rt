@@ -6,7 +6,6 @@ ghost use Rattle.lent.specs.Served.{memory, CallServed};
 
 use kinds::FarmNo;
 use lent::Answer;
-use octets::Found;
 use sheet::farms;
 use table::TABLE;
 
@@ -22,8 +21,7 @@ pub fn connect(s: &[u8], t: &mut [u8; TABLE], out: &mut [u8], m: &[u8], f: FarmN
     }
     let site = site::site_of(s, f);
     let rows = octets::wide(site.quota) + 1;
-    let found = serve::connect::connect_at(t, f.0 as usize, rows);
-    let Found::At(seat) = found else {
+    let Some(seat) = serve::connect::connect_at(t, f.0 as usize, rows) else {
         return finish::refused(8);
     };
     let row = octets::wide(site.first) + seat;

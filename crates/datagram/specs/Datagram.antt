@@ -1,14 +1,13 @@
 -- Datagrams: the verdict, and what each gets.
 -- Assumes nothing: these are definitions.
-use Rattle.std.specs.Prelude.{ℕ, ◌-◌, Bool, List, eqb, leb, length, drop}
+use Rattle.std.specs.Prelude.{ℕ, ◌-◌, Bool, List, eqb, leb, length, drop, Option, Some, None}
+use Rattle.kinds.specs.declared.Reply.{Reply}
 use Rattle.octets.specs.Choice.{pick, both, either, unless}
 use Rattle.octets.specs.Search.{same_list}
 use Rattle.kinds.specs.declared.Fault.TheVariants.{Pattern, UnknownType, WrongLength}
 use Rattle.kinds.specs.declared.DatagramVerdict.{DatagramVerdict}
 use Rattle.kinds.specs.declared.DatagramVerdict.TheVariants.{NotAnswered, Passes, Wrong}
 use Rattle.kinds.specs.declared.Reply.TheVariants.{Nack, Identity, Status, PowerMode}
-use Rattle.kinds.specs.declared.Answer.{Answer}
-use Rattle.kinds.specs.declared.Answer.TheVariants.{Nothing, With}
 use Rattle.layout.specs.FarmRecord.{quota_in, mode_in, vin_in, eid_in}
 use Rattle.types.specs.Types.{udp, known_on, length_fits}
 use Rattle.wire.specs.Header.{header_size, header_at, right_pattern, code_of}
@@ -41,24 +40,24 @@ abbrev pub payload_of : List ℕ → List ℕ
 payload_of d = drop header_size d
 
 -- the farm names itself to whoever asked for it by name
-abbrev pub if_named : Bool → Answer
-if_named named = pick named (With Identity) Nothing
+abbrev pub if_named : Bool → Option Reply
+if_named named = pick named (Some Identity) None
 
 -- "0001 always, 0002 if the EID and 0003 if the VIN matches: answer 0004 .. 4001: answer 4002 with 00, q, open rows of the farm ..
 -- 4003: 4004 with the mode." (0004 is read and dropped.)
-unfoldable pub answer_by : ℕ → List ℕ → List ℕ → ℕ → Answer
+unfoldable pub answer_by : ℕ → List ℕ → List ℕ → ℕ → Option Reply
 answer_by kind payload farm opened =
-    pick (eqb kind 0x0001) (With Identity)
+    pick (eqb kind 0x0001) (Some Identity)
     (pick (eqb kind 0x0002) (if_named (same_list payload (eid_in farm)))
     (pick (eqb kind 0x0003) (if_named (same_list payload (vin_in farm)))
-    (pick (eqb kind 0x4001) (With (Status (quota_in farm) opened))
-    (pick (eqb kind 0x4003) (With (PowerMode (mode_in farm))) Nothing))))
+    (pick (eqb kind 0x4001) (Some (Status (quota_in farm) opened))
+    (pick (eqb kind 0x4003) (Some (PowerMode (mode_in farm))) None))))
 
-abbrev pub answer_for : DatagramVerdict → List ℕ → List ℕ → ℕ → Answer
-answer_for NotAnswered d farm opened = Nothing
+abbrev pub answer_for : DatagramVerdict → List ℕ → List ℕ → ℕ → Option Reply
+answer_for NotAnswered d farm opened = None
 answer_for Passes d farm opened = answer_by (header_at d 0).kind (payload_of d) farm opened
-answer_for (Wrong fault) d farm opened = With (Nack (code_of fault))
+answer_for (Wrong fault) d farm opened = Some (Nack (code_of fault))
 
 -- what a datagram to a farm with this record and so many open rows gets
-unfoldable pub answer_to : List ℕ → List ℕ → ℕ → Answer
+unfoldable pub answer_to : List ℕ → List ℕ → ℕ → Option Reply
 answer_to d farm opened = answer_for (datagram_verdict d) d farm opened

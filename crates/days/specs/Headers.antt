@@ -1,9 +1,8 @@
 -- The worked days that are about one header.
 -- Assumes nothing: these are definitions.
-use Rattle.std.specs.Prelude.{List, [], ◌∷◌, ℕ}
+use Rattle.std.specs.Prelude.{List, [], ◌∷◌, ℕ, Result, Ok, Err}
+use Rattle.kinds.specs.declared.Fault.{Fault}
 use Rattle.octets.specs.Choice.{pick}
-use Rattle.kinds.specs.declared.Verdict.{Verdict}
-use Rattle.kinds.specs.declared.Verdict.TheVariants.{Passes, Wrong}
 use Rattle.wire.specs.Header.{header_at, verdict_of, code_of, closes}
 
 -- what the paper says of a verdict: that it passes, or its number and whether it closes the row
@@ -16,9 +15,9 @@ nack_and_close code = code ∷ 1 ∷ []
 abbrev pub nack_and_skip : ℕ → List ℕ
 nack_and_skip code = code ∷ 0 ∷ []
 
-abbrev pub said_of : Verdict → List ℕ
-said_of Passes = passes
-said_of (Wrong fault) = pick (closes fault) (nack_and_close (code_of fault)) (nack_and_skip (code_of fault))
+abbrev pub said_of : Result Unit Fault → List ℕ
+said_of (Ok tt) = passes
+said_of (Err fault) = pick (closes fault) (nack_and_close (code_of fault)) (nack_and_skip (code_of fault))
 
 abbrev pub judged : List ℕ → List ℕ
 judged bytes = said_of (verdict_of (header_at bytes 0))

@@ -1,5 +1,6 @@
 -- Laws for the loops over a block's rows.
 -- Assumes nothing.
+use Rattle.std.proofs.Common.{Some}
 use Prim.Native.Nat.{ℕ, zero, suc, ◌+◌, ◌≤◌, ◌<◌}
 use mathlib.Core.Path.{◌≡◌, refl, sym, ap, ◌∙◌}
 use mathlib.Core.Bool.{Bool, true, false}
@@ -8,7 +9,6 @@ use mathlib.Core.Logic.{⊎_elim}
 use native.Mathlib.Nat.{eq-or-lt_of_le}
 use native.Mathlib.Omega.{arith}
 use lib.ListN.{length, length-map}
-use Rattle.octets.specs.declared.Found.TheVariants.{At}
 use Rattle.octets.specs.Choice.{pick}
 use Rattle.octets.specs.Fold.{up_to}
 use Rattle.octets.specs.Search.{first_at}
@@ -25,12 +25,12 @@ unfolding farm_of
 nine b = length-map (parts row_size rows_at seats b) row_from ∙ parts-length row_size rows_at seats b
 
 -- what is found is in the list
-pub found_below : {A : Type 0} (p : A → Bool) (k : ℕ) (l : List A) (i : ℕ) → first_at p k l ≡ At i → i < k + length l
+pub found_below : {A : Type 0} (p : A → Bool) (k : ℕ) (l : List A) (i : ℕ) → first_at p k l ≡ Some i → i < k + length l
 unfolding first_at
 found_below p k [] i e = absurd (let z : ◌≡◌ {A = ℕ} 0 1 = cc in omega arith)
 found_below p k (x ∷ l) i e = by (p x) (found_below p (suc k) l i) e
   where
-    by : (t : Bool) → (first_at p (suc k) l ≡ At i → i < suc k + length l) → pick t (At k) (first_at p (suc k) l) ≡ At i → i < k + suc (length l)
+    by : (t : Bool) → (first_at p (suc k) l ≡ Some i → i < suc k + length l) → pick t (Some k) (first_at p (suc k) l) ≡ Some i → i < k + suc (length l)
     by true more h = let z : k ≡ i = cc in omega arith
     by false more h = omega (arith, more h)
 

@@ -12,7 +12,6 @@ ghost use Rattle.table.specs.Block.{farm_of};
 ghost use Rattle.decide.specs.SiteSheet.{site_sheet};
 
 use kinds::{Check, Clock, Decision, HeadVerdict, RowState, Site};
-use octets::Found;
 use table::SEATS;
 
 // "All codes but 10 close the row."
@@ -80,16 +79,16 @@ pub fn wanted(b: &[u8], seat: usize) -> u16
 // ---- the socket's rules
 
 // The row on which the address is active.
-pub fn holder(b: &[u8], address: u16) -> Found
+pub fn holder(b: &[u8], address: u16) -> Option<usize>
     requires { length b.now ≡ block_size }
     ensures { result ≡ first_at (active_as address) 0 (farm_of b.now).rows }
 {
     for i in 0..SEATS {
         if active_as(b, i, address) {
-            return Found::At(i);
+            return Some(i);
         }
     }
-    Found::Nothing
+    None
 }
 
 // How many rows are active.
@@ -123,10 +122,9 @@ pub fn socket_rules(b: &[u8], site: Site, address: u16) -> Decision
     requires { length b.now ≡ block_size }
     ensures { result ≡ socket_rules (site_sheet site) (farm_of b.now).rows address }
 {
-    let h = holder(b, address);
-    match h {
-        Found::At(i) => Decision::Ask(Check::One(i as u8)),
-        Found::Nothing => by_places(b, site),
+    match holder(b, address) {
+        Some(i) => Decision::Ask(Check::One(i as u8)),
+        None => by_places(b, site),
     }
 }
 

@@ -1,5 +1,6 @@
 -- Document 01's order for a diagnostic message, a rule at a time.
 -- Assumes nothing.
+use Rattle.std.proofs.Common.{Some, None}
 use Prim.Native.Nat.{ℕ}
 use mathlib.Core.Path.{◌≡◌, refl, sym, ap, ◌∙◌}
 use mathlib.Core.Bool.{true, false}
@@ -9,7 +10,6 @@ use Rattle.kinds.specs.declared.Item.{Item}
 use Rattle.kinds.specs.declared.Reply.TheVariants.{Ack, DiagnosticNack, HandOn}
 use Rattle.payload.specs.declared.Ends.{Ends}
 use Rattle.sheet.specs.declared.find.Known.{Known}
-use Rattle.sheet.specs.declared.find.Found.TheVariants.{Is, Nobody}
 use Rattle.sheet.specs.Sheet.{targets_of}
 use Rattle.sheet.specs.Find.{lookup}
 use Rattle.model.specs.FarmSheet.{FarmSheet, farm_sheet, TargetIs, stranger, unreachable, reachable}
@@ -25,11 +25,11 @@ use Rattle.diagnostic.specs.Codes.{target_code, replies_by}
 -- ---- the target
 
 module _ (s : List ℕ) (f address : ℕ) where
-  pub target_nobody : lookup address (targets_of s) ≡ Nobody → 0x03 ≡ target_code ((farm_sheet s f).target address)
+  pub target_nobody : lookup address (targets_of s) ≡ None → 0x03 ≡ target_code ((farm_sheet s f).target address)
   unfolding farm_sheet
   target_nobody e = rw e refl
 
-  module _ {k : Known} (e : lookup address (targets_of s) ≡ Is k) where
+  module _ {k : Known} (e : lookup address (targets_of s) ≡ Some k) where
     pub target_other : (k.farm.0 ≡ f → ⊥) → 0x03 ≡ target_code ((farm_sheet s f).target address)
     unfolding farm_sheet
     target_other n = rw (e, ne_eqb k.farm.0 f n) refl

@@ -18,7 +18,6 @@ use kinds::{FarmNo, Reply, Site};
 use payload::Ends;
 use rowwork::refuse;
 use sheet::find;
-use sheet::find::Found;
 
 // "8002 with 00"
 const GOES_ON: u8 = 0x00;
@@ -38,7 +37,7 @@ fn code_for(s: &[u8], f: FarmNo, target: u16) -> u8
     requires { GoodSheet s.now }
     ensures { result ≡ target_code ((farm_sheet s.now f.0).target target) }
 {
-    let Found::Is(k) = find::find_target(s, target) else {
+    let Some(k) = find::find_target(s, target) else {
         return NO_TARGET;
     };
     let owner = k.farm;

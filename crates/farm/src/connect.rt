@@ -9,19 +9,18 @@ ghost use Rattle.farm.specs.Connected.{Connected};
 
 use closing::say;
 use kinds::{Clock, RowState};
-use octets::Found;
 
 // The lowest free row of the farm's own, of which there are so many.
-fn free_row(b: &[u8], rows: usize) -> Found
+fn free_row(b: &[u8], rows: usize) -> Option<usize>
     requires { (rows ≤ seats) × (length b.now ≡ block_size) }
     ensures { result ≡ first_at is_free 0 (take rows (farm_of b.now).rows) }
 {
     for i in 0..rows {
         if farm_ask::is_free(b, i) {
-            return Found::At(i);
+            return Some(i);
         }
     }
-    Found::Nothing
+    None
 }
 
 // "A fresh row's age counts from connect"
@@ -34,14 +33,11 @@ fn open_row(b: &mut [u8], seat: usize)
 }
 
 // Refusal 8 is where this finds nothing.
-pub fn connect(b: &mut [u8], rows: usize) -> Found
+pub fn connect(b: &mut [u8], rows: usize) -> Option<usize>
     requires { (rows ≤ seats) × Whole b.old }
     ensures { Connected rows b.old b.new result }
 {
-    let found = free_row(b, rows);
-    let Found::At(seat) = found else {
-        return Found::Nothing;
-    };
+    let seat = free_row(b, rows)?;
     open_row(b, seat);
-    Found::At(seat)
+    Some(seat)
 }

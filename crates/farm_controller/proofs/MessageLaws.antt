@@ -1,19 +1,17 @@
 -- A controller's message, a case at a time.
 -- Assumes nothing.
+use Rattle.std.proofs.Common.{Option, Some}
 use Prim.Native.Nat.{ℕ}
 use mathlib.Core.Path.{◌≡◌, refl, sym, ap, ◌∙◌}
 use mathlib.Core.Bool.{Bool, true, false}
 use mathlib.Core.List.{List}
 use lib.Dec.{eqb, leb}
 use lib.ListN.{length}
-use Rattle.octets.specs.declared.Found.{Found}
-use Rattle.octets.specs.declared.Found.TheVariants.{At}
 use Rattle.octets.specs.Choice.{pick, both, unless}
 use Rattle.octets.specs.Search.{first_at}
 use Rattle.kinds.specs.declared.Site.{Site}
 use Rattle.kinds.specs.declared.Reply.TheVariants.{Message}
 use Rattle.sheet.specs.declared.find.Known.{Known}
-use Rattle.sheet.specs.declared.find.Found.TheVariants.{Is}
 use Rattle.model.specs.FarmSheet.{FarmSheet, stranger, reachable, unreachable, target_by, farm_sheet}
 use Rattle.model.specs.Row.{active_as}
 use Rattle.model.specs.Farm.{Farm, says}
@@ -28,7 +26,7 @@ use Rattle.site.proofs.SiteLaws.{sited_same}
 use Rattle.farm_controller.specs.Message.{size_fits, number_by, message_move, Messaged}
 
 -- a target of another farm is no target of this one; whether it is reachable does not matter
-pub target_known : (f : ℕ) (k : Known) → eqb k.farm.0 f ≡ is_target (target_by f (Is k))
+pub target_known : (f : ℕ) (k : Known) → eqb k.farm.0 f ≡ is_target (target_by f (Some k))
 target_known f k = by (eqb k.farm.0 f) (eqb k.flag 1)
   where
     by : (own flag : Bool) → own ≡ is_target (pick own (pick flag reachable unreachable) stranger)
@@ -62,7 +60,7 @@ module _ (own : FarmSheet) (h : Held) (from to : ℕ) (user : List ℕ) where
   pub no_target : size_fits (length user) ≡ true → is_target (own.target from) ≡ false → controller_move own h from to user ≡ refused 10
   no_target e t = right-size e ∙ rw t
 
-  pub for_tester : size_fits (length user) ≡ true → is_target (own.target from) ≡ true → (x : Found) → first_at (active_as to) 0 h.farm.rows ≡ x
+  pub for_tester : size_fits (length user) ≡ true → is_target (own.target from) ≡ true → (x : Option ℕ) → first_at (active_as to) 0 h.farm.rows ≡ x
       → controller_move own h from to user ≡ to_tester own h from to user x
   for_tester e t x k = right-size e ∙ rw t (ap (to_tester own h from to user) k)
 
@@ -80,7 +78,7 @@ module _ (s : List ℕ) (f : ℕ) (farm : Farm) (p : List ℕ) (from to : ℕ) (
 
   -- the item has the row's number over the whole sheet
   pub messaged-said : (site : Site) → Sited s f site → (after : List ℕ) (seat : ℕ)
-      → ((rooms : List (List ℕ)) → message_move s f farm from to user rooms ≡ to_tester (farm_sheet s f) (record { farm = farm; rooms = rooms }) from to user (At seat))
+      → ((rooms : List (List ℕ)) → message_move s f farm from to user rooms ≡ to_tester (farm_sheet s f) (record { farm = farm; rooms = rooms }) from to user (Some seat))
       → Said after (pushed_to (items_of p) (says (site_sheet site) seat (Message from to))) → Messaged s f farm p after from to user 0
   messaged-said site at after seat e said =
       let same : says (site_sheet site) seat (Message from to) ≡ says (farm_sheet s f) seat (Message from to) =

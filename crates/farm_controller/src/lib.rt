@@ -13,7 +13,6 @@ ghost use Rattle.farm_controller.specs.Message.{size_fits, Messaged};
 
 use closing::say;
 use kinds::{FarmNo, Reply, Site};
-use octets::Found;
 use sheet::find;
 
 // "9 | controller message with 0 or over 2,044 bytes of user data"
@@ -33,8 +32,7 @@ fn is_target(s: &[u8], f: FarmNo, from: u16) -> bool
     requires { GoodSheet s.now }
     ensures { result ≡ is_target ((farm_sheet s.now f.0).target from) }
 {
-    let found = find::find_target(s, from);
-    let find::Found::Is(target) = found else {
+    let Some(target) = find::find_target(s, from) else {
         return false;
     };
     target.farm.0 == f.0
@@ -60,8 +58,7 @@ pub fn message(
     if !is_target(s, f, from) {
         return 10;
     }
-    let holder = decide::holder(b, to);
-    let Found::At(seat) = holder else {
+    let Some(seat) = decide::holder(b, to) else {
         return 10;
     };
     say::say(p, site, seat, Reply::Message(from, to));

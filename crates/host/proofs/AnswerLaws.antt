@@ -1,5 +1,6 @@
 -- From the entries that the rules give to what the calls wrote: messages handed on, responses.
 -- Assumes nothing.
+use Rattle.std.proofs.Common.{Some}
 use Prim.Native.Nat.{ℕ, ◌+◌, ◌≤◌}
 use mathlib.Core.Path.{◌≡◌, refl, sym, ap, ◌∙◌, subst}
 use mathlib.Core.Bool.{true, false}
@@ -12,7 +13,6 @@ use Rattle.kinds.specs.declared.Request.{Request}
 use Rattle.layout.specs.Layout.{ack_bytes}
 use Rattle.wire.specs.Header.{our_version}
 use Rattle.payload.specs.Payload.{ends_in}
-use Rattle.sheet.specs.declared.rows.Owner.TheVariants.{Seat}
 use Rattle.sheet.specs.Sheet.{farm_no}
 use Rattle.sheet.specs.Rows.{owner_of}
 use Rattle.outsheet.specs.Sheet.{Entry, entry}
@@ -51,7 +51,7 @@ module _ {a : Answer} {before after : Memory} where
   hands-nothing d w e = record { entries = entries_of d.long d.items; wrote = w; none = entries_hand d.long d.items ∙ e }
 
   -- the entries of a message that is handed on, as the sheet has them
-  handed_out : (s : List ℕ) (r f seat : ℕ) (m : List ℕ) (d : Did) → owner_of s r ≡ Seat (farm_no f) seat → Wrote (entries_of d.long d.items) a before after
+  handed_out : (s : List ℕ) (r f seat : ℕ) (m : List ℕ) (d : Did) → owner_of s r ≡ Some (farm_no f, seat) → Wrote (entries_of d.long d.items) a before after
       → Handed (slot_sheet s f) seat m d.items d.long → HandedOut r m a before after
   handed_out s r f seat m d o w h =
       record {
@@ -69,7 +69,7 @@ module _ {a : Answer} {before after : Memory} where
           ∙ ap (λ (x : List ℕ). ack ((slot_sheet s f).first + seat) ∷ entry ((slot_sheet s f).first + seat) hand_on x ∷ entries_of d.long h.rest) h.payload
           ∙ ap (λ (x : ℕ). ack x ∷ entry x hand_on (payload_of m) ∷ entries_of d.long h.rest) (row_of_seat s r f seat o)
 
-  pub hands_exactly : (s : List ℕ) (r f seat : ℕ) (h : Held) (input : List ℕ) (d : Did) → owner_of s r ≡ Seat (farm_no f) seat
+  pub hands_exactly : (s : List ℕ) (r f seat : ℕ) (h : Held) (input : List ℕ) (d : Did) → owner_of s r ≡ Some (farm_no f, seat)
       → Wrote (entries_of d.long d.items) a before after → HandedOn (slot_sheet s f) h seat input d.items d.long
       → HandsExactly (slot_sheet s f) h r seat input a before after
   hands_exactly s r f seat h input d o w k =
@@ -80,7 +80,7 @@ module _ {a : Answer} {before after : Memory} where
 
   -- ---- responses
 
-  pub responds_first : (s : List ℕ) (r f seat : ℕ) (q : Request) (code : ℕ) (d : Did) → owner_of s r ≡ Seat (farm_no f) seat
+  pub responds_first : (s : List ℕ) (r f seat : ℕ) (q : Request) (code : ℕ) (d : Did) → owner_of s r ≡ Some (farm_no f, seat)
       → Wrote (entries_of d.long d.items) a before after
       → Begins (says (slot_sheet s f) seat (Activation q.address (slot_sheet s f).entity code)) d.items
       → RespondsFirst r q.address (slot_sheet s f).entity code a before after

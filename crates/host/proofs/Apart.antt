@@ -1,6 +1,7 @@
 -- Neighbours in memory: a call that names a farm, or a row of it, changes no byte of another farm's block of the table, nor of another row's
 -- room.
 -- Assumes nothing.
+use Rattle.std.proofs.Common.{Option, Some, None}
 use Prim.Native.Nat.{ℕ, ◌<◌}
 use Prim.{Unit, tt}
 use mathlib.Core.Path.{◌≡◌, refl, sym, ap, ◌∙◌, subst}
@@ -10,8 +11,6 @@ use lib.Dec.{leb}
 use lib.ListN.{length, get_or, take}
 use lib.Seq.{get_or-set_other}
 use borrow.Author.Tests.{ne_eqb}
-use Rattle.octets.specs.declared.Found.{Found}
-use Rattle.octets.specs.declared.Found.TheVariants.{At, Nothing}
 use Rattle.octets.specs.Search.{first_at}
 use Rattle.kinds.specs.declared.RowState.{RowState}
 use Rattle.kinds.specs.declared.RowState.TheVariants.{Free, Fresh, Waiting, Active}
@@ -55,9 +54,9 @@ module _ (own : FarmSheet) (h : Held) (i : ℕ) where
   unfolding connects
   connect_stays = by (first_at is_free 0 (take own.rows h.farm.rows))
     where
-      by : (o : Found) → Stays (connected_at own h o)
-      by Nothing = tt
-      by (At seat) = refl
+      by : (o : Option ℕ) → Stays (connected_at own h o)
+      by None = tt
+      by (Some seat) = refl
 
   bytes_stay : (seat : ℕ) (input : List ℕ) → (i ≡ seat → ⊥) → (st : RowState) → Stays (bytes_by own h seat input st)
   bytes_stay seat input n Free = tt
@@ -72,9 +71,9 @@ module _ (own : FarmSheet) (h : Held) (i : ℕ) where
       (λ _. unless_case Stays (leb (length user) most_user) _ _ (λ _. tt)
       (λ _. unless_case Stays (is_target (own.target from)) _ _ (λ _. tt) (λ _. by (first_at (active_as to) 0 h.farm.rows))))
     where
-      by : (o : Found) → Stays (to_tester own h from to user o)
-      by Nothing = tt
-      by (At seat) = refl
+      by : (o : Option ℕ) → Stays (to_tester own h from to user o)
+      by None = tt
+      by (Some seat) = refl
 
   move_stays : (c : Own) → (Names c i → ⊥) → Stays (move own h c)
   unfolding move datagram_move

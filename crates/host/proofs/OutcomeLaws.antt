@@ -1,5 +1,7 @@
 -- What comes of a call: a refusal leaves the lent memory, a done call has written the sheet of its entries, and number 0 means done.
 -- Assumes nothing.
+use Rattle.std.proofs.Common.{Option, Some, None}
+use Rattle.kinds.specs.declared.FarmNo.{FarmNo}
 use Prim.{Unit, tt}
 use Prim.Native.Nat.{ℕ, suc, ◌+◌, ◌≤◌}
 use mathlib.Core.Path.{◌≡◌, refl, sym, ap₂, ap, ◌∙◌, subst}
@@ -10,16 +12,12 @@ use native.Mathlib.Omega.{arith}
 use lib.Dec.{eqb, leb, ltb}
 use lib.ListN.{length, take}
 use Rattle.octets.specs.Choice.{pick, one}
-use Rattle.octets.specs.declared.Found.{Found}
-use Rattle.octets.specs.declared.Found.TheVariants.{At, Nothing}
 use Rattle.octets.specs.Search.{first_at, count_if}
 use Rattle.kinds.specs.declared.Item.{Item}
 use Rattle.kinds.specs.declared.Reply.{Reply}
 use Rattle.kinds.specs.declared.Reply.TheVariants.{Nack, Identity, Activation, AliveCheck, Status, PowerMode, Message, Ack, DiagnosticNack, Close, HandOn}
 use Rattle.kinds.specs.declared.RowState.{RowState}
 use Rattle.kinds.specs.declared.RowState.TheVariants.{Free, Fresh, Waiting, Active}
-use Rattle.sheet.specs.declared.rows.Owner.{Owner}
-use Rattle.sheet.specs.declared.rows.Owner.TheVariants.{Seat, Nobody}
 use Rattle.sheet.specs.Sheet.{farm_count}
 use Rattle.sheet.specs.Rows.{owner_of}
 use Rattle.sheet.specs.Test.{good_sheet}
@@ -100,9 +98,9 @@ Listed (refuses n) = 1 ≤ n
 Listed (did d) = Unit {0}
 
 module _ (own : FarmSheet) (h : Held) where
-  found_numbered : (o : Found) → Numbered (connected_at own h o)
-  found_numbered Nothing = omega arith
-  found_numbered (At seat) = tt
+  found_numbered : (o : Option ℕ) → Numbered (connected_at own h o)
+  found_numbered None = omega arith
+  found_numbered (Some seat) = tt
 
   bytes_numbered : (seat : ℕ) (input : List ℕ) (st : RowState) → Numbered (bytes_by own h seat input st)
   bytes_numbered seat input Free = omega arith
@@ -110,9 +108,9 @@ module _ (own : FarmSheet) (h : Held) where
   bytes_numbered seat input (Waiting q) = omega arith
   bytes_numbered seat input (Active b idle) = tt
 
-  tester_numbered : (from to : ℕ) (user : List ℕ) (o : Found) → Numbered (to_tester own h from to user o)
-  tester_numbered from to user Nothing = omega arith
-  tester_numbered from to user (At seat) = tt
+  tester_numbered : (from to : ℕ) (user : List ℕ) (o : Option ℕ) → Numbered (to_tester own h from to user o)
+  tester_numbered from to user None = omega arith
+  tester_numbered from to user (Some seat) = tt
 
   move_numbered : (c : Own) → Numbered (move own h c)
   unfolding move connects datagram_move controller_move
@@ -139,9 +137,9 @@ module _ (s : List ℕ) (t : Table) where
   named_listed f c true = farm_listed f c
   named_listed f c false = omega arith
 
-  owned_listed : (c : ℕ → Own) (o : Owner) → Listed (called s t (of_owner o c))
-  owned_listed c (Seat f seat) = farm_listed f.0 (c seat)
-  owned_listed c Nobody = omega arith
+  owned_listed : (c : ℕ → Own) (o : Option (FarmNo × ℕ)) → Listed (called s t (of_owner o c))
+  owned_listed c (Some (f, seat)) = farm_listed f.0 (c seat)
+  owned_listed c None = omega arith
 
   call_listed : (c : Call) → Listed (called s t (whose s c))
   unfolding whose

@@ -3,6 +3,7 @@
 -- `CallServed` is what the contract of each of them ensures. Each statement stands here whole, under the sentence that it is; of the model
 -- they stand in model/proofs/Promises.
 -- Assumes nothing.
+use Rattle.std.proofs.Common.{Some}
 use Prim.Native.Nat.{ℕ, ◌+◌, ◌*◌, ◌≤◌, ◌<◌}
 use mathlib.Core.Path.{◌≡◌, refl, sym, ap, ◌∙◌, subst}
 use mathlib.Core.Bool.{true, false}
@@ -15,7 +16,6 @@ use Rattle.octets.proofs.SaysLaws.{never}
 use Rattle.kinds.specs.Clock.{check_limit}
 use Rattle.kinds.specs.declared.Request.{Request}
 use Rattle.wire.specs.Header.{most_payload}
-use Rattle.sheet.specs.declared.rows.Owner.TheVariants.{Seat}
 use Rattle.sheet.specs.Sheet.{most_farms, farm_count, farm_no}
 use Rattle.sheet.specs.Rows.{rows_owned, owner_of}
 use Rattle.sheet.proofs.RowsLaws.{owner_seat}
@@ -142,13 +142,13 @@ module _ {s t m : List ℕ} (b : Began s t m) where
   -- ---- DEMAND 2: "A whole diagnostic message that the header rules pass reaches a controller exactly when its sender is active on that
   -- connection and the controller is known, reachable and of that farm." Of a bytes call that is done, by the bytes that it wrote
 
-  room_enough : (r f seat : ℕ) → owner_of s r ≡ Seat (farm_no f) seat → most_payload ≤ length (get_or (get_or (rooms b) f []) seat [])
+  room_enough : (r f seat : ℕ) → owner_of s r ≡ Some (farm_no f, seat) → most_payload ≤ length (get_or (get_or (rooms b) f []) seat [])
   room_enough r f seat o =
       let k = owner_seat s r f seat o in
       omega (arith, room-long s b.lent.table b.lent.assembling (began_lendable b).sheet (began_lendable b).assembling f seat k.farm_within k.seat_within)
 
   pub handed_on_exactly : {ms : List Made} {u n : List ℕ} → Calls s t m ms u n → (out : List ℕ) (r f seat : ℕ) (input : List ℕ) (a : Answer) (after : Memory)
-      → owner_of s r ≡ Seat (farm_no f) seat → CallServed s (bytes_from r input) a (memory u out n) after → a.number ≡ 0
+      → owner_of s r ≡ Some (farm_no f, seat) → CallServed s (bytes_from r input) a (memory u out n) after → a.number ≡ 0
       → HandsExactly (slot_sheet s f) (slot (lent_table s u n) f) r seat input a (memory u out n) after
   handed_on_exactly {ms} {u} {n} h out r f seat input a after o x e =
       let d = zero-done s (bytes_from r input) x e in
@@ -161,7 +161,7 @@ module _ {s t m : List ℕ} (b : Began s t m) where
   -- that 0006, with the code that the rules give
 
   pub answered_at_once : {ms : List Made} {u n : List ℕ} → Calls s t m ms u n → (out : List ℕ) (r f seat : ℕ) (input : List ℕ) (q : Request) (code : ℕ)
-      (a : Answer) (after : Memory) → owner_of s r ≡ Seat (farm_no f) seat → CallServed s (bytes_from r input) a (memory u out n) after → a.number ≡ 0
+      (a : Answer) (after : Memory) → owner_of s r ≡ Some (farm_no f, seat) → CallServed s (bytes_from r input) a (memory u out n) after → a.number ≡ 0
       → ReadableNow (slot_sheet s f) (slot (lent_table s u n) f) seat input q code
       → RespondsFirst r q.address (slot_sheet s f).entity code a (memory u out n) after
   answered_at_once {ms} {u} {n} h out r f seat input q code a after o x e w =
@@ -176,7 +176,7 @@ module _ {s t m : List ℕ} (b : Began s t m) where
   -- the one the rules give at the moment of deciding." `RespondsIn`: some call of the history wrote the 0006 to that row, with that code
 
   pub answered_in_time : {past : List Made} {u n : List ℕ} → Calls s t m past u n → (out : List ℕ) (row g seat k : ℕ) (input : List ℕ) (q : Request) (a : Answer)
-      (joined : Memory) → owner_of s row ≡ Seat (farm_no g) seat → CallServed s (bytes_from row input) a (memory u out n) joined → a.number ≡ 0
+      (joined : Memory) → owner_of s row ≡ Some (farm_no g, seat) → CallServed s (bytes_from row input) a (memory u out n) joined → a.number ≡ 0
       → Waits (slot_sheet s g) (slot (lent_table s u n) g) seat input q → k ≡ length (farm_of (block u g)).line + 1
       → {ms : List Made} {v o : List ℕ} (rest : Calls s joined.table joined.assembling ms v o) → lost_of row g rest ≡ false → check_limit * k ≤ ticks_of rest
       → RespondsIn s row q.address rest

@@ -6,10 +6,10 @@ ghost use Rattle.kinds.specs.Clock.{clock_of, stepped};
 
 // A row over the whole sheet, 0 to 15 (255 where an entry belongs to none), and a farm, 0 to 3: two kinds, so that a row can't
 // index the farms.
-#[derive(Clone, Copy)]
+#[derive(Clone, Copy, PartialEq, Eq)]
 pub struct RowNo(pub u8);
 
-#[derive(Clone, Copy)]
+#[derive(Clone, Copy, PartialEq, Eq)]
 pub struct FarmNo(pub u8);
 
 // What the rules of a farm's line look at of its sheet: its first row over the whole sheet, its quota, its entity address.
@@ -123,13 +123,6 @@ pub enum Fault {
     WrongLength,
 }
 
-// The verdict on a header that came by TCP.
-#[derive(Clone, Copy)]
-pub enum Verdict {
-    Passes,
-    Wrong(Fault),
-}
-
 // What ended a bytes call: "takes bytes until the input ends, a header is judged wrong, or one message is finished". A finished message has
 // its type and its payload's length, a skipped one its length.
 #[derive(Clone, Copy)]
@@ -181,11 +174,4 @@ pub struct Item {
     pub row: RowNo,
     pub version: u8,
     pub reply: Reply,
-}
-
-// What a datagram gets.
-#[derive(Clone, Copy)]
-pub enum Answer {
-    Nothing,
-    With(Reply),
 }

@@ -1,5 +1,7 @@
 -- A message that a bytes call finishes has a right length: its header passed. So its payload holds all that the core reads of it.
 -- Assumes nothing.
+use Rattle.std.proofs.Common.{Result, Ok, Err}
+use Rattle.kinds.specs.declared.Fault.{Fault}
 use Prim.Native.Nat.{ℕ, ◌+◌, ◌≤◌}
 use mathlib.Core.Path.{◌≡◌, refl, sym, ap, subst, ◌∙◌}
 use mathlib.Core.Bool.{true, false≢true}
@@ -12,8 +14,6 @@ use borrow.Author.Tests.{leb-true, ltb-true}
 use Rattle.octets.specs.Search.{some}
 use Rattle.kinds.specs.declared.Event.{Event as Ours}
 use Rattle.kinds.specs.declared.Event.TheVariants.{Finished}
-use Rattle.kinds.specs.declared.Verdict.{Verdict}
-use Rattle.kinds.specs.declared.Verdict.TheVariants.{Passes, Wrong}
 use Rattle.kinds.specs.declared.Place.{Place}
 use Rattle.kinds.specs.declared.Place.TheVariants.{Header, Reading, Skipping}
 use Rattle.types.specs.Types.{types, tcp, length_fits}
@@ -69,9 +69,9 @@ abbrev FedRight : Fed → Type 0
 FedRight (more s) = PossibleIn s
 FedRight (ends e s) = EndsWell e
 
-judged-right : (v : Verdict) (head room : List ℕ) → verdict_of (header_at head 0) ≡ v → FedRight (judged v head room)
-judged-right Passes head room e = (passes-some (header_at head 0) e, e)
-judged-right (Wrong fault) head room e = tt
+judged-right : (v : Result Unit Fault) (head room : List ℕ) → verdict_of (header_at head 0) ≡ v → FedRight (judged v head room)
+judged-right (Ok tt) head room e = (passes-some (header_at head 0) e, e)
+judged-right (Err fault) head room e = tt
 
 feed-right : (p : Place) (head room : List ℕ) (byte : ℕ) → PossibleAt p head → FedRight (feed_at p head room byte)
 feed-right (Header n) head room byte k =

@@ -1,5 +1,7 @@
 -- Demand 2: "A tester's address is never active on two connections."
 -- Assumes nothing.
+use Rattle.std.proofs.Common.{Option, Some, None}
+use Rattle.sheet.specs.declared.find.Known.{Known}
 use Prim.Native.Nat.{ℕ, zero, suc, ◌≤◌, ◌<◌}
 use mathlib.Core.Path.{◌≡◌, refl, sym, ap, subst, ◌∙◌}
 use mathlib.Core.Bool.{Bool, true, false}
@@ -14,8 +16,6 @@ use Rattle.octets.proofs.SaysLaws.{never}
 use Rattle.kinds.specs.declared.RowState.{RowState}
 use Rattle.kinds.specs.declared.RowState.TheVariants.{Free, Fresh, Waiting, Active}
 use Rattle.kinds.specs.declared.Row.{Row}
-use Rattle.sheet.specs.declared.find.Found.{Found}
-use Rattle.sheet.specs.declared.find.Found.TheVariants.{Is, Nobody}
 use Rattle.sheet.specs.Sheet.{farm_count, testers_of}
 use Rattle.sheet.specs.Find.{lookup}
 use Rattle.model.specs.FarmSheet.{FarmSheet, tester_by, farm_sheet, no_farm, slot_sheet}
@@ -57,9 +57,9 @@ tester_of_lem s f a e = by (ltb f (farm_count s)) e
     by true k = k
     by false k = absurd (never k)
 
-one-farm : (f g : ℕ) (x : Found) → tester_by f x ≡ true → tester_by g x ≡ true → f ≡ g
-one-farm f g (Is k) a b = sym (eqb-true k.farm.0 f a) ∙ eqb-true k.farm.0 g b
-one-farm f g Nobody a b = absurd (never a)
+one-farm : (f g : ℕ) (x : Option Known) → tester_by f x ≡ true → tester_by g x ≡ true → f ≡ g
+one-farm f g (Some k) a b = sym (eqb-true k.farm.0 f a) ∙ eqb-true k.farm.0 g b
+one-farm f g None a b = absurd (never a)
 
 -- ---- "A tester's address is never active on two connections."
 

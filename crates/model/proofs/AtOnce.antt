@@ -1,5 +1,6 @@
 -- A request that needs no check is answered by the call that finishes it: silence is no answer. Told by the bytes, as in Readable.
 -- Assumes nothing.
+use Rattle.std.proofs.Common.{Some}
 use Prim.Native.Nat.{ℕ, ◌≤◌}
 use mathlib.Core.Path.{◌≡◌, refl, sym, ap, subst, ◌∙◌}
 use mathlib.Core.List.{List, [], ◌++◌}
@@ -12,7 +13,6 @@ use Rattle.kinds.specs.declared.Item.{Item}
 use Rattle.kinds.specs.declared.Decision.{Decision}
 use Rattle.kinds.specs.declared.Decision.TheVariants.{Now}
 use Rattle.kinds.specs.declared.Reply.TheVariants.{Activation}
-use Rattle.sheet.specs.declared.rows.Owner.TheVariants.{Seat}
 use Rattle.sheet.specs.Sheet.{farm_no}
 use Rattle.sheet.specs.Rows.{owner_of}
 use Rattle.wire.specs.Header.{most_payload, header_at}
@@ -84,7 +84,7 @@ module _ (own : FarmSheet) (h : Held) (seat : ℕ) (input : List ℕ) (q : Reque
 
 -- IN A HISTORY: a done bytes call that finishes a readable request which needs no check begins its entries with the answer.
 pub history_at_once : (s : List ℕ) (rooms : List (List (List ℕ))) (ms : List Made) (l : Lent) (r f seat : ℕ) (input : List ℕ) (q : Request) (code : ℕ)
-    (d : Did) → most_payload ≤ length (get_or (get_or rooms f []) seat []) → owner_of s r ≡ Seat (farm_no f) seat
+    (d : Did) → most_payload ≤ length (get_or (get_or rooms f []) seat []) → owner_of s r ≡ Some (farm_no f, seat)
     → step s l (run s (fresh rooms) ms) (bytes_from r input) ≡ did d → ReadableNow (slot_sheet s f) (slot (run s (fresh rooms) ms) f) seat input q code
     → Begins (says (slot_sheet s f) seat (Activation q.address (slot_sheet s f).entity code)) d.items
 unfolding whose

@@ -1,5 +1,6 @@
 -- DEMAND 3's BOUND BY TICKS, over histories: a request that joins at place k is answered by accepted tick 50 * k.
 -- Assumes nothing.
+use Rattle.std.proofs.Common.{Some}
 use Prim.Native.Nat.{ℕ, zero, suc, ◌+◌, ◌*◌, ◌≤◌, ◌<◌}
 use mathlib.Core.Path.{◌≡◌, refl, sym, ap, subst, ◌∙◌}
 use mathlib.Core.Bool.{Bool, true, false, false≢true}
@@ -15,7 +16,6 @@ use Rattle.kinds.specs.declared.Clock.{Clock}
 use Rattle.kinds.specs.declared.Request.{Request}
 use Rattle.kinds.specs.declared.RowState.{RowState}
 use Rattle.kinds.specs.declared.RowState.TheVariants.{Free, Fresh, Waiting, Active}
-use Rattle.sheet.specs.declared.rows.Owner.TheVariants.{Seat}
 use Rattle.sheet.specs.Sheet.{farm_no}
 use Rattle.sheet.specs.Rows.{owner_of}
 use Rattle.sheet.specs.Test.{good_sheet}
@@ -45,7 +45,7 @@ either-false : (a b : Bool) → either a b ≡ false → (a ≡ false) × (b ≡
 either-false true b e = absurd (false≢true (sym e))
 either-false false b e = (refl, e)
 
-module _ (s : List ℕ) (g seat row : ℕ) (q : Request) (owner : owner_of s row ≡ Seat (farm_no g) seat) where
+module _ (s : List ℕ) (g seat row : ℕ) (q : Request) (owner : owner_of s row ≡ Some (farm_no g, seat)) where
   same_count : (t : Table) (ms : List Made)
       → count (next s g seat row q owner) (tick_of s g seat row q owner) (EndsBy s g seat row q owner) t ms ≡ ticks_in s t ms
   unfolding ticks_in
@@ -163,7 +163,7 @@ module _ (s : List ℕ) (t : Table) (m : Made) (row g seat : ℕ) (q : Request) 
 -- From any table that keeps the rules: a row that waits with a request, and stands in its farm's line with k before it, that is at place
 -- k + 1, has its answer among the entries of any calls that hold checkLimit * (k + 1) accepted ticks and no loss of its connection or of
 -- its farm's link.
-pub answered-by : (s : List ℕ) (t : Table) (row g seat k : ℕ) (q : Request) → good_table s t ≡ true → owner_of s row ≡ Seat (farm_no g) seat
+pub answered-by : (s : List ℕ) (t : Table) (row g seat k : ℕ) (q : Request) → good_table s t ≡ true → owner_of s row ≡ Some (farm_no g, seat)
     → Stands seat (slot t g).farm.line k → (row_at (slot t g).farm.rows seat).state ≡ Waiting q
     → (ms : List Made) → cut_in row g s t ms ≡ false → check_limit * (k + 1) ≤ ticks_in s t ms
     → Answered row q.address (entries_in s t ms)

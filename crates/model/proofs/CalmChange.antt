@@ -1,5 +1,6 @@
 -- The changes that a call makes before it settles, one by one: while the head stays, its check asks the same rows.
 -- Assumes nothing.
+use Rattle.std.proofs.Common.{Some, None}
 use Prim.Native.Nat.{ℕ, ◌<◌}
 use mathlib.Core.Path.{◌≡◌, refl, sym, ap, subst, ◌∙◌}
 use mathlib.Core.Bool.{Bool, true, false, false≢true}
@@ -9,7 +10,6 @@ use lib.Dec.{eqb}
 use lib.ListN.{set}
 use lib.Seq.{get_or-set_other}
 use borrow.Author.Tests.{eqb-true, eqb-false, ne_eqb}
-use Rattle.octets.specs.declared.Found.TheVariants.{At, Nothing}
 use Rattle.octets.specs.Choice.{pick}
 use Rattle.octets.specs.Search.{first_at, count_if}
 use Rattle.octets.proofs.ChoiceLaws.{both_right}
@@ -79,7 +79,7 @@ module _ {own : FarmSheet} {f : Farm} (k : Ready own f) where
 
   -- A ROW IS MADE ACTIVE by a request that passes the line: its address was not active, and places were free.
   pub opened_asked : (seat a head : ℕ) (rest : List ℕ) → f.line ≡ head ∷ rest → is_waiting (row_at f.rows seat) ≡ false
-      → is_active (row_at f.rows seat) ≡ false → first_at (active_as a) 0 f.rows ≡ Nothing → count_if is_active f.rows < own.quota
+      → is_active (row_at f.rows seat) ≡ false → first_at (active_as a) 0 f.rows ≡ None → count_if is_active f.rows < own.quota
       → SameCheck own f (with_row f seat (active_row a)) head
   opened_asked seat a head rest e n u o q = by (pending_runs own f head (head_pending head rest e))
     where
@@ -90,12 +90,12 @@ module _ {own : FarmSheet} {f : Farm} (k : Ready own f) where
       not_as true t = absurd (false≢true (sym u ∙ as_active w (row_at f.rows seat).state t))
       not_as false t = t
 
-      other : (s : ℕ) → first_at (active_as w) 0 f.rows ≡ At s → a ≡ w → ⊥
+      other : (s : ℕ) → first_at (active_as w) 0 f.rows ≡ Some s → a ≡ w → ⊥
       other s t z =
-          let v : first_at (active_as w) 0 f.rows ≡ Nothing = subst (λ (b : ℕ). first_at (active_as b) 0 f.rows ≡ Nothing) z o in
+          let v : first_at (active_as w) 0 f.rows ≡ None = subst (λ (b : ℕ). first_at (active_as b) 0 f.rows ≡ None) z o in
           let y : ◌≡◌ {A = ℕ} 0 1 = cc in omega arith
 
-      alike : (s : ℕ) → first_at (active_as w) 0 f.rows ≡ At s → Alike (active_as w) f.rows (set f.rows seat (active_row a))
+      alike : (s : ℕ) → first_at (active_as w) 0 f.rows ≡ Some s → Alike (active_as w) f.rows (set f.rows seat (active_row a))
       alike s t i =
           row-set f.rows seat i (active_row a) (λ y. active_as w y ≡ active_as w (row_at f.rows i))
           (λ z l. ne_eqb a w (other s t) ∙ sym (rw z (not_as (active_as w (row_at f.rows seat)) refl))) refl
@@ -139,7 +139,7 @@ module _ {own : FarmSheet} {f : Farm} (k : Ready own f) where
         (set_no_more f.rows seat (active_row a)
         (λ b u. subst (λ (c : ℕ). active_as c (row_at f.rows seat) ≡ true) (eqb-true a b u) t)))
 
-    pub opened_handed : (a : ℕ) → is_active (row_at f.rows seat) ≡ false → first_at (active_as a) 0 f.rows ≡ Nothing
+    pub opened_handed : (a : ℕ) → is_active (row_at f.rows seat) ≡ false → first_at (active_as a) 0 f.rows ≡ None
         → count_if is_active f.rows < own.quota → Handed own f (with_row f seat (active_row a))
     opened_handed a u o q =
         line_stays k (with_row f seat (active_row a)) refl (λ e. refl) k.calm.marks_asked

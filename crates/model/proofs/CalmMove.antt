@@ -1,5 +1,6 @@
 -- The rules on the running check, call by call.
 -- Assumes nothing.
+use Rattle.std.proofs.Common.{Option, Some, None}
 use Prim.Native.Nat.{ℕ, zero, suc, ◌<◌}
 use mathlib.Core.Path.{◌≡◌, refl, sym, ap, subst, ◌∙◌}
 use mathlib.Core.Bool.{true, false, false≢true}
@@ -10,8 +11,6 @@ use lib.Dec.{eqb, leb}
 use lib.ListN.{get_or, length, take}
 use lib.Seq.{get_or-take}
 use borrow.Author.Tests.{leb-false, eq-eqb}
-use Rattle.octets.specs.declared.Found.{Found}
-use Rattle.octets.specs.declared.Found.TheVariants.{At, Nothing}
 use Rattle.octets.specs.Search.{first_at, count_if}
 use Rattle.kinds.specs.declared.Fault.{Fault}
 use Rattle.kinds.specs.declared.Request.{Request}
@@ -49,16 +48,16 @@ use Rattle.model.proofs.CalmChange.{heard_asked, heard_ready, kept_handed, close
 pub decide_case : (P : Decision → Type 0) (own : FarmSheet) (rows : List Row) (seat : ℕ) (q : Request)
     → ((code : ℕ) → eqb code accepted ≡ false → P (Now code))
     → (active_as q.address (row_at rows seat) ≡ true → P (Now accepted))
-    → (is_active (row_at rows seat) ≡ false → first_at (active_as q.address) 0 rows ≡ Nothing → count_if is_active rows < own.quota → P (Now accepted))
+    → (is_active (row_at rows seat) ≡ false → first_at (active_as q.address) 0 rows ≡ None → count_if is_active rows < own.quota → P (Now accepted))
     → ((check : Check) → P (Ask check)) → P (decide own rows seat q)
 unfolding decide socket_rules
 decide_case P own rows seat q turned again free check =
     unless_case P (own.tester q.address) _ _ (λ t. turned 0x00 zero-refuses)
     (λ t. unless_case P (leb q.kind 1) _ _ (λ u. turned 0x06 six_refuses) (λ u. by (row_at rows seat).state refl))
   where
-    places : (o : Found) → first_at (active_as q.address) 0 rows ≡ o → is_active (row_at rows seat) ≡ false → P (by_holder own rows o)
-    places (At s) o e = check (One s)
-    places Nothing o e =
+    places : (o : Option ℕ) → first_at (active_as q.address) 0 rows ≡ o → is_active (row_at rows seat) ≡ false → P (by_holder own rows o)
+    places (Some s) o e = check (One s)
+    places None o e =
         pick_case P (leb own.quota (count_if is_active rows)) _ _ (λ t. check All)
         (λ t. free e o (leb-false own.quota (count_if is_active rows) t))
 
@@ -172,7 +171,7 @@ take_in (suc n) (x ∷ l) zero h = omega arith
 take_in (suc n) (x ∷ l) (suc i) h = omega (arith, take_in n l i (omega arith))
 
 -- the row that connect opens was free
-pub lowest_free : (n : ℕ) (rows : List Row) (seat : ℕ) → first_at is_free 0 (take n rows) ≡ At seat → is_free (row_at rows seat) ≡ true
+pub lowest_free : (n : ℕ) (rows : List Row) (seat : ℕ) → first_at is_free 0 (take n rows) ≡ Some seat → is_free (row_at rows seat) ≡ true
 lowest_free n rows seat e = by (first_stands is_free free_row (take n rows) seat 0 e)
   where
     by : Stands is_free free_row (take n rows) seat 0 → is_free (row_at rows seat) ≡ true
@@ -182,9 +181,9 @@ lowest_free n rows seat e = by (first_stands is_free free_row (take n rows) seat
 
 module _ {own : FarmSheet} (h : Held) (k : Good own h.farm) where
   -- after the call, or as before where it is refused
-  connect_calm : (o : Found) → first_at is_free 0 (take own.rows h.farm.rows) ≡ o → Calm own (held_by h (connected_at own h o)).farm
-  connect_calm Nothing e = calm_of k
-  connect_calm (At seat) e = opens_calm (ready_of k) seat (lowest_free own.rows h.farm.rows seat e)
+  connect_calm : (o : Option ℕ) → first_at is_free 0 (take own.rows h.farm.rows) ≡ o → Calm own (held_by h (connected_at own h o)).farm
+  connect_calm None e = calm_of k
+  connect_calm (Some seat) e = opens_calm (ready_of k) seat (lowest_free own.rows h.farm.rows seat e)
 
   take_calm : (seat : ℕ) (input : List ℕ) (s : RowState) → (row_at h.farm.rows seat).state ≡ s
       → Calm own (held_by h (bytes_by own h seat input s)).farm
@@ -195,9 +194,9 @@ module _ {own : FarmSheet} (h : Held) (k : Good own h.farm) where
   take_calm seat input (Active a c) e =
       bytes_calm (ready_of k) seat (taken_by seat (get_or h.rooms seat []) input h.farm) (ap is_waiting_state e)
 
-  tester_calm : (from to : ℕ) (user : List ℕ) (o : Found) → Calm own (held_by h (to_tester own h from to user o)).farm
-  tester_calm from to user (At seat) = calm_of k
-  tester_calm from to user Nothing = calm_of k
+  tester_calm : (from to : ℕ) (user : List ℕ) (o : Option ℕ) → Calm own (held_by h (to_tester own h from to user o)).farm
+  tester_calm from to user (Some seat) = calm_of k
+  tester_calm from to user None = calm_of k
 
   all_calm : (c : Own) → Calm own (held_by h (move own h c)).farm
   unfolding move connects datagram_move controller_move

@@ -1,5 +1,6 @@
 -- Which rows are asked, by the rows alone: while a head's check is still needed, no change of the rows alters which rows it asks.
 -- Assumes nothing.
+use Rattle.std.proofs.Common.{Option, Some, None}
 use Prim.Native.Nat.{ℕ, zero, suc, ◌≤◌, ◌<◌}
 use mathlib.Core.Path.{◌≡◌, refl, sym, ap, ◌∙◌}
 use mathlib.Core.Bool.{Bool, true, false, false≢true}
@@ -7,8 +8,6 @@ use mathlib.Core.List.{List, [], ◌∷◌}
 use native.Mathlib.Omega.{arith}
 use lib.Dec.{leb}
 use borrow.Author.Tests.{leb-true, lt-leb, eqb-true, eq-eqb}
-use Rattle.octets.specs.declared.Found.{Found}
-use Rattle.octets.specs.declared.Found.TheVariants.{At, Nothing}
 use Rattle.octets.specs.Choice.{one}
 use Rattle.octets.specs.Search.{first_at, count_if}
 use Rattle.kinds.specs.declared.RowState.{RowState}
@@ -143,13 +142,13 @@ pub record SameAsked (own : FarmSheet) (l m : List Row) (w : ℕ) : Type 0 where
 
 module _ (own : FarmSheet) (l m : List Row) (w : ℕ) where
   -- the same row is asked alone
-  same_one : (s : ℕ) → first_at (active_as w) 0 m ≡ At s → first_at (active_as w) 0 l ≡ At s → SameAsked own l m w
+  same_one : (s : ℕ) → first_at (active_as w) 0 m ≡ Some s → first_at (active_as w) 0 l ≡ Some s → SameAsked own l m w
   unfolding socket_rules
   same_one s e g = record { check = rw (e, g) refl; asked = λ i. rw (e, g) refl }
 
-  same_holder : count_if is_active m ≡ count_if is_active l → (o : Found) → by_holder own m o ≡ by_holder own l o
-  same_holder e (At s) = refl
-  same_holder e Nothing = rw e refl
+  same_holder : count_if is_active m ≡ count_if is_active l → (o : Option ℕ) → by_holder own m o ≡ by_holder own l o
+  same_holder e (Some s) = refl
+  same_holder e None = rw e refl
 
   same_need : Alike is_active l m → Alike (active_as w) l m → socket_rules own m w ≡ socket_rules own l w
   unfolding socket_rules
@@ -171,15 +170,15 @@ module _ (own : FarmSheet) (l m : List Row) (w : ℕ) where
   unfolding socket_rules
   fewer_same u q h check = by (first_at (active_as w) 0 m) refl
     where
-      that : (s : ℕ) → first_at (active_as w) 0 m ≡ At s → Stands (active_as w) free_row m s 0 → SameAsked own l m w
+      that : (s : ℕ) → first_at (active_as w) 0 m ≡ Some s → Stands (active_as w) free_row m s 0 → SameAsked own l m w
       that s o (stands i z g t) =
           let k : Alike (active_as w) l m =
           full_alike (active_as w) refl l m (λ j. h j w) (omega (arith, count-some (active_as w) refl m i t)) in
           same_one s o (sym (alike_first (active_as w) refl l m k 0) ∙ o)
 
-      by : (o : Found) → first_at (active_as w) 0 m ≡ o → by_holder own m o ≡ Ask check → SameAsked own l m w
-      by (At s) o e = that s o (first_stands (active_as w) free_row m s 0 o)
-      by Nothing o e =
+      by : (o : Option ℕ) → first_at (active_as w) 0 m ≡ o → by_holder own m o ≡ Ask check → SameAsked own l m w
+      by (Some s) o e = that s o (first_stands (active_as w) free_row m s 0 o)
+      by None o e =
           pick_case (λ d. d ≡ Ask check → SameAsked own l m w) (leb own.quota (count_if is_active m)) _ _
           (λ t g.
           let k : Alike is_active l m =
@@ -188,13 +187,13 @@ module _ (own : FarmSheet) (l m : List Row) (w : ℕ) where
           (λ t g. absurd (let z : ◌≡◌ {A = ℕ} 0 1 = cc in omega arith)) e
 
   -- A ROW HAS BECOME ACTIVE though a line stands: places were free, so the check is of one row, and that one stays.
-  pub more_same : count_if is_active l < own.quota → ((s : ℕ) → first_at (active_as w) 0 l ≡ At s → Alike (active_as w) l m)
+  pub more_same : count_if is_active l < own.quota → ((s : ℕ) → first_at (active_as w) 0 l ≡ Some s → Alike (active_as w) l m)
       → (check : Check) → socket_rules own l w ≡ Ask check → SameAsked own l m w
   unfolding socket_rules
   more_same q k check = by (first_at (active_as w) 0 l) refl
     where
-      by : (o : Found) → first_at (active_as w) 0 l ≡ o → by_holder own l o ≡ Ask check → SameAsked own l m w
-      by (At s) o e = same_one s (alike_first (active_as w) refl l m (k s o) 0 ∙ o) o
-      by Nothing o e =
+      by : (o : Option ℕ) → first_at (active_as w) 0 l ≡ o → by_holder own l o ≡ Ask check → SameAsked own l m w
+      by (Some s) o e = same_one s (alike_first (active_as w) refl l m (k s o) 0 ∙ o) o
+      by None o e =
           absurd (let t : leb own.quota (count_if is_active l) ≡ false = lt-leb own.quota (count_if is_active l) q in
           let n : by_places own l ≡ Now accepted = rw t refl in let z : ◌≡◌ {A = ℕ} 0 1 = cc in omega arith)

@@ -1,5 +1,7 @@
 -- Every response 0006 of a call of a farm: why it is sent.
 -- Assumes nothing.
+use Rattle.std.proofs.Common.{Option, Some, None}
+use Rattle.kinds.specs.declared.Reply.{Reply}
 use Prim.Native.Nat.{ℕ}
 use mathlib.Core.Path.{◌≡◌, refl, ap, ◌∙◌}
 use mathlib.Core.Bool.{Bool, true, false}
@@ -8,11 +10,8 @@ use native.Mathlib.Omega.{arith}
 use lib.Dec.{eqb, leb}
 use lib.ListN.{length, take}
 use borrow.Author.Tests.{eqb-true}
-use Rattle.octets.specs.declared.Found.{Found}
-use Rattle.octets.specs.declared.Found.TheVariants.{At, Nothing}
 use Rattle.octets.specs.Search.{first_at, same_list}
 use Rattle.kinds.specs.declared.Item.{Item}
-use Rattle.kinds.specs.declared.Answer.{Answer}
 use Rattle.kinds.specs.declared.Reply.TheVariants.{Activation, Ack, HandOn}
 use Rattle.kinds.specs.declared.DatagramVerdict.{DatagramVerdict}
 use Rattle.kinds.specs.declared.DatagramVerdict.TheVariants.{NotAnswered, Passes, Wrong}
@@ -83,7 +82,7 @@ datagram-plain : (input names : List ℕ) (opened : ℕ) → Each Plain (answers
 unfolding answer_to answer_by
 datagram-plain input names opened = by (datagram_verdict input)
   where
-    P : Answer → Type 0
+    P : Option Reply → Type 0
     P a = Each Plain (answers a)
 
     named : (b : Bool) → P (if_named b)
@@ -180,13 +179,13 @@ module _ (own : FarmSheet) (h : Held) where
       (then_each Plain (closed_where own (λ seat r. is_open r) h.farm) (λ g. quietly (cleared (with_line g [])))
       (closings_plain own (λ seat r. is_open r) h.farm) (none_each Plain))
 
-  connect_why : (x : Found) → Each (Reasons connect) (items_by (connected_at own h x))
-  connect_why Nothing = none_each (Reasons connect)
-  connect_why (At i) = none_each (Reasons connect)
+  connect_why : (x : Option ℕ) → Each (Reasons connect) (items_by (connected_at own h x))
+  connect_why None = none_each (Reasons connect)
+  connect_why (Some i) = none_each (Reasons connect)
 
-  tester_why : (from to : ℕ) (user : List ℕ) (x : Found) → Each (Reasons (controller from to user)) (items_by (to_tester own h from to user x))
-  tester_why from to user Nothing = none_each (Reasons (controller from to user))
-  tester_why from to user (At i) =
+  tester_why : (from to : ℕ) (user : List ℕ) (x : Option ℕ) → Each (Reasons (controller from to user)) (items_by (to_tester own h from to user x))
+  tester_why from to user None = none_each (Reasons (controller from to user))
+  tester_why from to user (Some i) =
       plain_why (controller from to user) _ (one_each Plain _ (λ a e c p. let z : ◌≡◌ {A = ℕ} 0 1 = cc in omega arith))
 
   controller_why : (from to : ℕ) (user : List ℕ) → Each (Reasons (controller from to user)) (items_by (controller_move own h from to user))

@@ -1,6 +1,7 @@
 -- A waiter's due time: with k before it and the check clock at c, its answer is due in at most checkLimit * k + (checkLimit - c) ticks.
 -- What settling does to it.
 -- Assumes nothing.
+use Rattle.std.proofs.Common.{Option, Some, None}
 use Prim.Native.Nat.{ℕ, zero, suc, ◌+◌, ◌*◌, ◌≤◌, ◌<◌}
 use mathlib.Core.Path.{◌≡◌, refl, sym, ap, subst, ◌∙◌}
 use mathlib.Core.Bool.{Bool, true, false, false≢true}
@@ -11,8 +12,6 @@ use native.Mathlib.Omega.{arith}
 use lib.Dec.{eqb, leb}
 use lib.ListN.{get_or, length}
 use borrow.Author.Tests.{leb-false, eqb-true, eqb-false, ne_eqb}
-use Rattle.octets.specs.declared.Found.{Found}
-use Rattle.octets.specs.declared.Found.TheVariants.{At, Nothing}
 use Rattle.octets.specs.Search.{first_at, count_if}
 use Rattle.kinds.specs.declared.Clock.{Clock}
 use Rattle.kinds.specs.declared.Item.{Item}
@@ -117,7 +116,7 @@ pub record Passes (p : Row → Bool) (rows : List Row) (i : ℕ) : Type 0 where
   pub within : i < length rows
   pub passes : p (row_at rows i) ≡ true
 
-pub first_at_lem : (p : Row → Bool) (rows : List Row) (s : ℕ) → first_at p 0 rows ≡ At s → Passes p rows s
+pub first_at_lem : (p : Row → Bool) (rows : List Row) (s : ℕ) → first_at p 0 rows ≡ Some s → Passes p rows s
 first_at_lem p rows s e = by (first_stands p free_row rows s 0 e)
   where
     by : FirstStands p free_row rows s 0 → Passes p rows s
@@ -133,14 +132,14 @@ rules_spare : (own : FarmSheet) (rows : List Row) (a seat : ℕ) (q : Request) (
 unfolding socket_rules Spares
 rules_spare own rows a seat q check w = by (first_at (active_as a) 0 rows) refl
   where
-    by : (o : Found) → first_at (active_as a) 0 rows ≡ o → by_holder own rows o ≡ Ask check → Spares seat check
-    by (At s) o e =
+    by : (o : Option ℕ) → first_at (active_as a) 0 rows ≡ o → by_holder own rows o ≡ Ask check → Spares seat check
+    by (Some s) o e =
         let z : One s ≡ check = cc in
         subst (Spares seat) z
         (λ x.
         let t : active_as a (row_at rows seat) ≡ true = subst (λ (i : ℕ). active_as a (row_at rows i) ≡ true) x (first_at_lem (active_as a) rows s o).passes in
         false≢true (sym (ap (active_as_state a) w) ∙ t))
-    by Nothing o e =
+    by None o e =
         pick_case (λ d. d ≡ Ask check → Spares seat check) (leb own.quota (count_if is_active rows)) (Ask All) (Now accepted)
         (λ _ z. let y : All ≡ check = cc in subst (Spares seat) y tt) (λ _ z. absurd (let y : ◌≡◌ {A = ℕ} 0 1 = cc in omega arith)) e
 

@@ -1,6 +1,7 @@
 -- What a call of the farm does to a waiter's due time: it answers the waiter, or cuts it off, or leaves it due in no more ticks, a tick in
 -- one less.
 -- Assumes nothing.
+use Rattle.std.proofs.Common.{Option, Some, None}
 use Prim.Native.Nat.{ℕ, zero, suc, ◌+◌, ◌*◌, ◌≤◌, ◌<◌}
 use native.Mathlib.Bridge.{le_by_compare, IsLe}
 use mathlib.Core.Path.{◌≡◌, refl, sym, ap, subst, ◌∙◌}
@@ -13,8 +14,6 @@ use lib.ListN.{get_or, length, take, length-take}
 use lib.Seq.{get_or-take}
 use borrow.Author.Tests.{eqb-true, eqb-false, lt-ltb}
 use Rattle.octets.specs.Search.{first_at}
-use Rattle.octets.specs.declared.Found.{Found}
-use Rattle.octets.specs.declared.Found.TheVariants.{At, Nothing}
 use Rattle.kinds.specs.declared.Fault.{Fault}
 use Rattle.kinds.specs.declared.Request.{Request}
 use Rattle.kinds.specs.declared.Row.{Row}
@@ -275,7 +274,7 @@ abbrev pub Moved : FarmSheet → ℕ → Request → ℕ → Held → Move → T
 Moved own seat q n h m = Ends own seat q n (done_by h m)
 
 -- the first free row of the farm's is not one that waits
-free_other : (rows : List Row) (k seat i : ℕ) (q : Request) → (row_at rows seat).state ≡ Waiting q → first_at is_free 0 (take k rows) ≡ At i
+free_other : (rows : List Row) (k seat i : ℕ) (q : Request) → (row_at rows seat).state ≡ Waiting q → first_at is_free 0 (take k rows) ≡ Some i
     → seat ≡ i → ⊥
 free_other rows k seat i q w e z =
     let p : Passes is_free (take k rows) i = first_at_lem is_free (take k rows) i e in
@@ -287,9 +286,9 @@ module _ (own : FarmSheet) (seat : ℕ) (q : Request) (n : ℕ) (h : Held) (d : 
   abbrev Moves : Move → Type 0
   Moves m = Moved own seat q n h m
 
-  connect_moved : (x : Found) → ((i : ℕ) → x ≡ At i → seat ≡ i → ⊥) → Moves (connected_at own h x)
-  connect_moved Nothing k = waits d
-  connect_moved (At i) k =
+  connect_moved : (x : Option ℕ) → ((i : ℕ) → x ≡ Some i → seat ≡ i → ⊥) → Moves (connected_at own h x)
+  connect_moved None k = waits d
+  connect_moved (Some i) k =
       waits
       (record {
         near = near_same h.farm (with_row h.farm i fresh_row)
@@ -310,9 +309,9 @@ module _ (own : FarmSheet) (seat : ℕ) (q : Request) (n : ℕ) (h : Held) (d : 
       (λ z. let y : Active a idle ≡ Waiting q = sym e ∙ rw (← z) d.near.asks in let o : ◌≡◌ {A = ℕ} 0 1 = cc in omega arith)
       (taken_by i (get_or h.rooms i []) input h.farm) h.farm d.near
 
-  tester_moved : (from to : ℕ) (user : List ℕ) (x : Found) → Moves (to_tester own h from to user x)
-  tester_moved from to user Nothing = waits d
-  tester_moved from to user (At i) = waits d
+  tester_moved : (from to : ℕ) (user : List ℕ) (x : Option ℕ) → Moves (to_tester own h from to user x)
+  tester_moved from to user None = waits d
+  tester_moved from to user (Some i) = waits d
 
   controller_moved : (from to : ℕ) (user : List ℕ) → Moves (controller_move own h from to user)
   unfolding controller_move

@@ -1,6 +1,8 @@
 -- The due time along a history: another farm's call, or a refused one, leaves the farm's slot alone; its own calls and the accepted ticks
 -- do what they do to the farm.
 -- Assumes nothing.
+use Rattle.std.proofs.Common.{Option, Some, None}
+use Rattle.kinds.specs.declared.FarmNo.{FarmNo}
 use Prim.Native.Nat.{ℕ, zero, suc, ◌+◌, ◌≤◌, ◌<◌}
 use mathlib.Core.Path.{◌≡◌, refl, sym, ap, subst, ◌∙◌}
 use mathlib.Core.Bool.{Bool, true, false, false≢true}
@@ -14,8 +16,6 @@ use borrow.Author.Tests.{eqb-true, eqb-false, ne_eqb, lt-ltb}
 use Rattle.octets.specs.Choice.{both, one}
 use Rattle.kinds.specs.declared.Item.{Item}
 use Rattle.kinds.specs.declared.Request.{Request}
-use Rattle.sheet.specs.declared.rows.Owner.{Owner}
-use Rattle.sheet.specs.declared.rows.Owner.TheVariants.{Seat, Nobody}
 use Rattle.sheet.specs.Sheet.{farm_count, farm_no}
 use Rattle.sheet.specs.Rows.{first_row, owner_of}
 use Rattle.sheet.specs.Test.{good_sheet}
@@ -95,9 +95,9 @@ ones_farm s f x =
     pick_case (λ w. w ≡ everyones → ⊥) (ltb f (farm_count s)) (farms f x) (nobodys 5) (λ _ e. let z : ◌≡◌ {A = ℕ} 0 1 = cc in omega arith)
     (λ _ e. let z : ◌≡◌ {A = ℕ} 0 1 = cc in omega arith)
 
-ones_owner : (w : Owner) (c : ℕ → Own) → of_owner w c ≡ everyones → ⊥
-ones_owner (Seat f i) c e = let z : ◌≡◌ {A = ℕ} 0 1 = cc in omega arith
-ones_owner Nobody c e = let z : ◌≡◌ {A = ℕ} 0 1 = cc in omega arith
+ones_owner : (w : Option (FarmNo × ℕ)) (c : ℕ → Own) → of_owner w c ≡ everyones → ⊥
+ones_owner (Some (f, i)) c e = let z : ◌≡◌ {A = ℕ} 0 1 = cc in omega arith
+ones_owner None c e = let z : ◌≡◌ {A = ℕ} 0 1 = cc in omega arith
 
 -- only a tick is everyone's
 not-everyones : (s : List ℕ) (c : Call) → is_tick c ≡ false → whose s c ≡ everyones → ⊥
@@ -112,7 +112,7 @@ not-everyones s (message_from f from to user) n e = ones_farm s f (controller fr
 
 -- ---- one farm's view of a call
 
-module _ (s : List ℕ) (g seat row : ℕ) (q : Request) (owner : owner_of s row ≡ Seat (farm_no g) seat) where
+module _ (s : List ℕ) (g seat row : ℕ) (q : Request) (owner : owner_of s row ≡ Some (farm_no g, seat)) where
   pub inside : g < farm_count s
   inside = (owner_seat s row g seat owner).farm_within
 
@@ -130,23 +130,23 @@ module _ (s : List ℕ) (g seat row : ℕ) (q : Request) (owner : owner_of s row
   loss_cut (connect_to f) n o e = subst (λ (x : Own). is_cut seat x ≡ false) (farm_of_lem s f g connect o e).1 refl
   loss_cut (bytes_from r input) n o e = go (owner_of s r) e
     where
-      go : (w : Owner) → of_owner w (λ i. bytes i input) ≡ farms g o → is_cut seat o ≡ false
-      go (Seat f i) z = let x : bytes i input ≡ o = cc in subst (λ (y : Own). is_cut seat y ≡ false) x refl
-      go Nobody p = absurd (let z : ◌≡◌ {A = ℕ} 0 1 = cc in omega arith)
+      go : (w : Option (FarmNo × ℕ)) → of_owner w (λ i. bytes i input) ≡ farms g o → is_cut seat o ≡ false
+      go (Some (f, i)) z = let x : bytes i input ≡ o = cc in subst (λ (y : Own). is_cut seat y ≡ false) x refl
+      go None p = absurd (let z : ◌≡◌ {A = ℕ} 0 1 = cc in omega arith)
   loss_cut (peer_closed_on r) n o e = go (owner_of s r) refl e
     where
-      go : (w : Owner) → owner_of s r ≡ w → of_owner w (λ i. peer_closed i) ≡ farms g o → is_cut seat o ≡ false
-      go (Seat f i) p z =
+      go : (w : Option (FarmNo × ℕ)) → owner_of s r ≡ w → of_owner w (λ i. peer_closed i) ≡ farms g o → is_cut seat o ≡ false
+      go (Some (f, i)) p z =
           let x : peer_closed i ≡ o = cc in
           let k : f.0 ≡ g = cc in
-          let p' : owner_of s r ≡ Seat (farm_no g) i = p ∙ ap (λ (y : ℕ). Seat (farm_no y) i) k in
+          let p' : owner_of s r ≡ Some (farm_no g, i) = p ∙ ap (λ (y : ℕ). Some (farm_no y, i)) k in
           subst (λ (y : Own). is_cut seat y ≡ false) x
           (ne_eqb i seat
           (λ same. eqb-false r row n
           (let a : first_row s g + i ≡ r = (owner_seat s r g i p').is_row in
           let b : first_row s g + seat ≡ row = (owner_seat s row g seat owner).is_row in
           omega arith)))
-      go Nobody p z = absurd (let z : ◌≡◌ {A = ℕ} 0 1 = cc in omega arith)
+      go None p z = absurd (let z : ◌≡◌ {A = ℕ} 0 1 = cc in omega arith)
   loss_cut (link_lost_of f) n o e = absurd (eqb-false f g n (farm_of_lem s f g link_lost o e).0)
   loss_cut tick n o e = absurd (let z : ◌≡◌ {A = ℕ} 0 1 = cc in omega arith)
   loss_cut (datagram_to f input) n o e = subst (λ (x : Own). is_cut seat x ≡ false) (farm_of_lem s f g (datagram input) o e).1 refl

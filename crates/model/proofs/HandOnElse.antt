@@ -1,5 +1,7 @@
 -- No call but bytes ever hands a payload on: connect, peer closed, link lost, datagram, message from a controller, tick, start.
 -- Assumes nothing.
+use Rattle.std.proofs.Common.{Option, Some, None}
+use Rattle.kinds.specs.declared.Reply.{Reply}
 use Prim.Native.Nat.{ℕ}
 use mathlib.Core.Path.{◌≡◌, refl, sym}
 use mathlib.Core.Bool.{Bool, true, false, false≢true}
@@ -7,9 +9,6 @@ use mathlib.Core.List.{List}
 use lib.Dec.{eqb, leb}
 use lib.ListN.{length, take}
 use Rattle.octets.specs.Search.{count_if, first_at, same_list}
-use Rattle.octets.specs.declared.Found.{Found}
-use Rattle.octets.specs.declared.Found.TheVariants.{At, Nothing}
-use Rattle.kinds.specs.declared.Answer.{Answer}
 use Rattle.kinds.specs.declared.DatagramVerdict.{DatagramVerdict}
 use Rattle.kinds.specs.declared.DatagramVerdict.TheVariants.{NotAnswered, Passes, Wrong}
 use Rattle.kinds.specs.declared.Reply.TheVariants.{Message}
@@ -40,7 +39,7 @@ NoneOn m = hand_ons (items_by m) ≡ 0
 
 -- ---- datagrams
 
-abbrev NoneIn : Answer → Type 0
+abbrev NoneIn : Option Reply → Type 0
 NoneIn a = hand_ons (answers a) ≡ 0
 
 none_named : (named : Bool) → NoneIn (if_named named)
@@ -69,9 +68,9 @@ module _ (own : FarmSheet) (h : Held) where
   unfolding connects
   none-connects = go (first_at is_free 0 (take own.rows h.farm.rows))
     where
-      go : (at : Found) → NoneOn (connected_at own h at)
-      go Nothing = (none_quiet is_hand_on)
-      go (At seat) = (none_quiet is_hand_on)
+      go : (at : Option ℕ) → NoneOn (connected_at own h at)
+      go None = (none_quiet is_hand_on)
+      go (Some seat) = (none_quiet is_hand_on)
 
   none_peer : (seat : ℕ) (f : Farm) → NoHandOn (peer_gone own seat f)
   unfolding peer_gone
@@ -99,9 +98,9 @@ module _ (own : FarmSheet) (h : Held) where
       (λ t. unless_case NoneOn (leb (length user) most_user) _ _ (λ t. (none_quiet is_hand_on))
       (λ t. unless_case NoneOn (is_target (own.target from)) _ _ (λ t. (none_quiet is_hand_on)) (λ t. go (first_at (active_as to) 0 h.farm.rows))))
     where
-      go : (at : Found) → NoneOn (to_tester own h from to user at)
-      go Nothing = (none_quiet is_hand_on)
-      go (At seat) = none-one is_hand_on (says own seat (Message from to)) refl
+      go : (at : Option ℕ) → NoneOn (to_tester own h from to user at)
+      go None = (none_quiet is_hand_on)
+      go (Some seat) = none-one is_hand_on (says own seat (Message from to)) refl
 
   none-move : (c : Own) → is_bytes c ≡ false → NoneOn (move own h c)
   unfolding move

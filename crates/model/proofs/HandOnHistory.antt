@@ -1,5 +1,7 @@
 -- Hand-ons in a history from a fresh table: rule 4 is kept, and a row's room keeps its length, so the claim needs nothing of the table.
 -- Assumes nothing.
+use Rattle.std.proofs.Common.{Option, Result, Some, None, Ok, Err}
+use Rattle.kinds.specs.declared.Fault.{Fault}
 use Prim.Native.Nat.{ℕ, zero, suc, ◌+◌, ◌≤◌}
 use mathlib.Core.Path.{◌≡◌, refl, ap, ◌∙◌}
 use mathlib.Core.List.{List, [], ◌∷◌}
@@ -8,15 +10,10 @@ use native.Mathlib.Omega.{arith}
 use lib.Dec.{eqb, leb, ltb}
 use lib.ListN.{length, get_or, set, take, length-set}
 use Rattle.octets.specs.Search.{first_at}
-use Rattle.octets.specs.declared.Found.{Found}
-use Rattle.octets.specs.declared.Found.TheVariants.{At, Nothing}
-use Rattle.kinds.specs.declared.Verdict.{Verdict}
-use Rattle.kinds.specs.declared.Verdict.TheVariants.{Passes, Wrong}
 use Rattle.kinds.specs.declared.Place.{Place}
 use Rattle.kinds.specs.declared.Place.TheVariants.{Header, Reading, Skipping}
 use Rattle.kinds.specs.declared.RowState.{RowState}
 use Rattle.kinds.specs.declared.RowState.TheVariants.{Free, Fresh, Waiting, Active}
-use Rattle.sheet.specs.declared.rows.Owner.TheVariants.{Seat}
 use Rattle.sheet.specs.Sheet.{farm_count, farm_no}
 use Rattle.sheet.specs.Rows.{owner_of}
 use Rattle.wire.specs.Header.{header_size, header_at, most_payload, verdict_of, closes}
@@ -40,9 +37,9 @@ Long n (ends e s) = length s.room ≡ n
 stored-long : (kind : ℕ) (room : List ℕ) (n byte : ℕ) → length (stored_in kind room n byte) ≡ length room
 stored-long kind room n byte = pick_case (λ l. length l ≡ length room) (is_stored kind) _ _ (λ t. length-set room n byte) (λ t. refl)
 
-judged-long : (v : Verdict) (head room : List ℕ) → Long (length room) (judged v head room)
-judged-long Passes head room = refl
-judged-long (Wrong fault) head room =
+judged-long : (v : Result Unit Fault) (head room : List ℕ) → Long (length room) (judged v head room)
+judged-long (Ok tt) head room = refl
+judged-long (Err fault) head room =
     pick_case (λ (s : Stream). length s.room ≡ length room) (closes fault) _ _ (λ t. refl)
     (λ t. pick_case (λ (s : Stream). length s.room ≡ length room) (eqb (header_at head 0).length 0) _ _ (λ u. refl) (λ u. refl))
 
@@ -84,9 +81,9 @@ module _ (own : FarmSheet) (h : Held) (seat : ℕ) where
   unfolding move connects datagram_move controller_move
   move-rooms connect = go (first_at is_free 0 (take own.rows h.farm.rows))
     where
-      go : (x : Found) → Kept (connected_at own h x)
-      go Nothing = tt
-      go (At i) = refl
+      go : (x : Option ℕ) → Kept (connected_at own h x)
+      go None = tt
+      go (Some i) = refl
   move-rooms (bytes i input) = go (row_at h.farm.rows i).state
     where
       took : room_length (set h.rooms i (takes (stream_of (row_at h.farm.rows i).place (row_at h.farm.rows i).head (get_or h.rooms i [])) input).stream.room) seat ≡ room_length h.rooms seat
@@ -105,9 +102,9 @@ module _ (own : FarmSheet) (h : Held) (seat : ℕ) where
       (λ t. unless_case Kept (leb (length user) most_user) _ _ (λ t. tt)
       (λ t. unless_case Kept (is_target (own.target from)) _ _ (λ t. tt) (λ t. go (first_at (active_as to) 0 h.farm.rows))))
     where
-      go : (x : Found) → Kept (to_tester own h from to user x)
-      go Nothing = tt
-      go (At i) = refl
+      go : (x : Option ℕ) → Kept (to_tester own h from to user x)
+      go None = tt
+      go (Some i) = refl
 
 -- ---- and so does a call on the table
 
@@ -160,7 +157,7 @@ room_stays s rooms ms f seat n room =
 -- begin with a whole diagnostic message that the header rules pass, whose sender is active on that row, and whose controller is known,
 -- reachable and of that row's farm; then once, behind its 8002, and byte for byte.
 pub history_hands_on : (s : List ℕ) (rooms : List (List (List ℕ))) (ms : List Made) (l : Lent) (r f seat : ℕ) (input : List ℕ) (d : Did)
-    → most_payload ≤ length (get_or (get_or rooms f []) seat []) → owner_of s r ≡ Seat (farm_no f) seat
+    → most_payload ≤ length (get_or (get_or rooms f []) seat []) → owner_of s r ≡ Some (farm_no f, seat)
     → step s l (run s (fresh rooms) ms) (bytes_from r input) ≡ did d
     → HandedOn (slot_sheet s f) (slot (run s (fresh rooms) ms) f) seat input d.items d.long
 history_hands_on s rooms ms l r f seat input d room owner e =

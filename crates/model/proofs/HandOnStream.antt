@@ -1,5 +1,6 @@
 -- What a bytes call finishes, said by the bytes themselves: those of the message in hand, then those that come.
 -- Assumes nothing.
+use Rattle.std.proofs.Common.{Result, Ok, Err}
 use Prim.Native.Nat.{ℕ, suc, ◌+◌, ◌≤◌, ◌<◌}
 use mathlib.Core.Path.{◌≡◌, refl, sym, ap, ◌∙◌}
 use mathlib.Core.Bool.{true, false}
@@ -14,8 +15,6 @@ use borrow.Author.Tests.{ltb-true, ltb-false, leb-true, leb-false, lt-ltb, le-lt
 use Rattle.octets.specs.Choice.{pick, both}
 use Rattle.kinds.specs.declared.Fault.{Fault}
 use Rattle.kinds.specs.declared.Fault.TheVariants.{UnknownType, TooLong}
-use Rattle.kinds.specs.declared.Verdict.{Verdict}
-use Rattle.kinds.specs.declared.Verdict.TheVariants.{Passes, Wrong}
 use Rattle.kinds.specs.declared.Place.{Place}
 use Rattle.kinds.specs.declared.Place.TheVariants.{Header, Reading, Skipping}
 use Rattle.wire.specs.declared.header.Header.{Header as Head}
@@ -138,8 +137,8 @@ header_front hd rest l =
     byte k h = get_or-append hd rest 0 k (omega arith)
 
 -- no message is whole where the header is judged wrong
-wrong-not : (k : ℕ) (m : List ℕ) (fault : Fault) → verdict_of (header_at m 0) ≡ Wrong fault → WholeOf k m → ⊥
-wrong-not k m fault e w = let p : verdict_of (header_at m 0) ≡ Passes = w.passes in let z : ◌≡◌ {A = ℕ} 0 1 = cc in omega arith
+wrong-not : (k : ℕ) (m : List ℕ) (fault : Fault) → verdict_of (header_at m 0) ≡ Err fault → WholeOf k m → ⊥
+wrong-not k m fault e w = let p : verdict_of (header_at m 0) ≡ Ok tt = w.passes in let z : ◌≡◌ {A = ℕ} 0 1 = cc in omega arith
 
 -- an end of the call that is no finished message, where none is whole
 no_message : (k : ℕ) (m : List ℕ) (e : Event) (s : Stream) → (WholeOf k m → ⊥) → ((kind size : ℕ) → e ≡ finished kind size → ⊥) → Ends k m e s
@@ -147,7 +146,7 @@ no_message k m e s n u = record { finishes = λ w. absurd (n w); stores = λ w. 
 
 -- while a payload is read: m is the header, the part in hand, and the input
 module _ (k : ℕ) (stored : is_stored k ≡ true) (m hd room input : List ℕ) (n : ℕ) (front : header_at m 0 ≡ header_at hd 0) (long : length m ≡ header_size + (n + length input))
-    (behind : drop header_size m ≡ take n room ++ input) (p : verdict_of (header_at hd 0) ≡ Passes) (h : n < (header_at hd 0).length) (r : most_payload ≤ length room) where
+    (behind : drop header_size m ≡ take n room ++ input) (p : verdict_of (header_at hd 0) ≡ Ok tt) (h : n < (header_at hd 0).length) (r : most_payload ≤ length room) where
   read_finishes : WholeOf k m → (takes (stream_of (Reading n) hd room) input).event ≡ finished k (header_at m 0).length
   read_finishes w =
       let size : (header_at m 0).length ≡ (header_at hd 0).length = ap (λ (x : Head). x.length) front in
@@ -187,14 +186,14 @@ header_behind : (hd rest : List ℕ) → length hd ≡ header_size → drop head
 header_behind hd rest l = drop_at hd rest header_size l
 
 -- when the eight bytes are in
-after-ends : (k : ℕ) → is_stored k ≡ true → (hd room rest : List ℕ) (v : Verdict) → length hd ≡ header_size → most_payload ≤ length room → verdict_of (header_at hd 0) ≡ v
+after-ends : (k : ℕ) → is_stored k ≡ true → (hd room rest : List ℕ) (v : Result Unit Fault) → length hd ≡ header_size → most_payload ≤ length room → verdict_of (header_at hd 0) ≡ v
     → Ends k (hd ++ rest) (takes_by (judged v hd room) (λ t. takes t rest)).event (takes_by (judged v hd room) (λ t. takes t rest)).stream
-after-ends k st hd room rest Passes l r e =
+after-ends k st hd room rest Ok tt l r e =
     let both : Ends k (hd ++ rest) (takes (stream_of (Reading 0) hd room) rest).event (takes (stream_of (Reading 0) hd room) rest).stream =
     read_ends k st (hd ++ rest) hd room rest 0 (header_front hd rest l) (omega (arith, length-append hd rest)) (header_behind hd rest l) e
     (passes-some (header_at hd 0) e) r in
     both
-after-ends k st hd room rest (Wrong fault) l r e =
+after-ends k st hd room rest (Err fault) l r e =
     no_message k (hd ++ rest) _ _ (wrong-not k (hd ++ rest) fault (ap verdict_of (header_front hd rest l) ∙ e))
     (λ kind size q. let z : ◌≡◌ {A = ℕ} 0 1 = cc in omega arith)
 
@@ -218,10 +217,10 @@ stream-ends k st (Reading n) head room input l r h =
     (header_behind head (take n room ++ input) l) h.1 h.0 r)
 stream-ends k st (Skipping n) head room input l r h =
     no_message k (head ++ input) _ _
-    (λ w. let q : verdict_of (header_at head 0) ≡ Passes = ap verdict_of (sym (header_front head input l)) ∙ w.passes in judged_wrong q h.1)
+    (λ w. let q : verdict_of (header_at head 0) ≡ Ok tt = ap verdict_of (sym (header_front head input l)) ∙ w.passes in judged_wrong q h.1)
     (skip_event n head room input)
   where
-    judged_wrong : verdict_of (header_at head 0) ≡ Passes
-        → (verdict_of (header_at head 0) ≡ Wrong UnknownType) ⊎ (verdict_of (header_at head 0) ≡ Wrong TooLong) → ⊥
+    judged_wrong : verdict_of (header_at head 0) ≡ Ok tt
+        → (verdict_of (header_at head 0) ≡ Err UnknownType) ⊎ (verdict_of (header_at head 0) ≡ Err TooLong) → ⊥
     judged_wrong q (inl e) = let z : ◌≡◌ {A = ℕ} 0 1 = cc in omega arith
     judged_wrong q (inr e) = let z : ◌≡◌ {A = ℕ} 0 1 = cc in omega arith

@@ -1,5 +1,7 @@
 -- Hand-ons of a call on the whole table.
 -- Assumes nothing.
+use Rattle.std.proofs.Common.{Option, Some, None}
+use Rattle.kinds.specs.declared.FarmNo.{FarmNo}
 use Prim.Native.Nat.{ℕ, suc, ◌+◌, ◌≤◌}
 use mathlib.Core.Path.{◌≡◌, refl, sym, ap}
 use mathlib.Core.Bool.{Bool, true, false, false≢true}
@@ -9,8 +11,6 @@ use lib.Dec.{eqb, leb, ltb}
 use lib.ListN.{length, get_or}
 use borrow.Author.Tests.{lt-ltb}
 use Rattle.octets.specs.Choice.{pick}
-use Rattle.sheet.specs.declared.rows.Owner.{Owner}
-use Rattle.sheet.specs.declared.rows.Owner.TheVariants.{Seat, Nobody}
 use Rattle.sheet.specs.Sheet.{farm_count, farm_no}
 use Rattle.sheet.specs.Rows.{owner_of}
 use Rattle.sheet.specs.Test.{good_sheet}
@@ -66,9 +66,9 @@ module _ (s : List ℕ) (t : Table) where
   none-called (bytes_from r input) e = absurd (false≢true (sym e))
   none-called (peer_closed_on r) e = by (owner_of s r)
     where
-      by : (o : Owner) → NoneOut (called s t (of_owner o (λ seat. peer_closed seat)))
-      by (Seat f seat) = none-farm f.0 (peer_closed seat) refl
-      by Nobody = none_quiet is_hand_on
+      by : (o : Option (FarmNo × ℕ)) → NoneOut (called s t (of_owner o (λ seat. peer_closed seat)))
+      by (Some (f, seat)) = none-farm f.0 (peer_closed seat) refl
+      by None = none_quiet is_hand_on
   none-called (link_lost_of f) e = none_of_farm f link_lost refl
   none-called tick e = none-ticks 0 t
   none-called (datagram_to f input) e = none_of_farm f (datagram input) refl
@@ -90,7 +90,7 @@ other_calls_hand_nothing_on s l t c e = step_case NoneOut s l t c (λ n. none_qu
 -- ---- a bytes call
 
 -- the row of an entry on a farm's seat is the row over the whole sheet
-pub row_of_seat : (s : List ℕ) (r f seat : ℕ) → owner_of s r ≡ Seat (farm_no f) seat → (slot_sheet s f).first + seat ≡ r
+pub row_of_seat : (s : List ℕ) (r f seat : ℕ) → owner_of s r ≡ Some (farm_no f, seat) → (slot_sheet s f).first + seat ≡ r
 unfolding slot_sheet farm_sheet
 row_of_seat s r f seat e = let is = owner_seat s r f seat e in rw (lt-ltb f (farm_count s) is.farm_within) is.is_row
 
@@ -98,7 +98,7 @@ did_same : {a b : Did} → did a ≡ did b → a ≡ b
 did_same e = cc
 
 -- THE CLAIM for a row of the whole table: as `handed_on`, for the farm that owns the row and the seat that the row has there.
-pub row_handed_on : (s : List ℕ) (l : Lent) (t : Table) (r f seat : ℕ) (input : List ℕ) (d : Did) → owner_of s r ≡ Seat (farm_no f) seat
+pub row_handed_on : (s : List ℕ) (l : Lent) (t : Table) (r f seat : ℕ) (input : List ℕ) (d : Did) → owner_of s r ≡ Some (farm_no f, seat)
     → Good (slot_sheet s f) (slot t f).farm → most_payload ≤ length (get_or (slot t f).rooms seat [])
     → step s l t (bytes_from r input) ≡ did d → HandedOn (slot_sheet s f) (slot t f) seat input d.items d.long
 unfolding whose

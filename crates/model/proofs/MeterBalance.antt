@@ -1,5 +1,7 @@
 -- What a bytes call takes and where it leaves the row, the sum of the bytes in hand, and sums that wrap.
 -- Assumes nothing.
+use Rattle.std.proofs.Common.{Result, Ok, Err}
+use Rattle.kinds.specs.declared.Fault.{Fault}
 use Prim.{Unit, tt}
 use Prim.Native.Nat.{ℕ, zero, suc, ◌+◌, ◌≤◌, ◌<◌}
 use mathlib.Core.Path.{◌≡◌, refl, sym, ap, subst, ◌∙◌}
@@ -12,8 +14,6 @@ use lib.ListN.{set, length}
 use borrow.Author.Tests.{ltb-true, ltb-false, eq-eqb}
 use Rattle.octets.specs.Choice.{one}
 use Rattle.octets.specs.Search.{count_if}
-use Rattle.kinds.specs.declared.Verdict.{Verdict}
-use Rattle.kinds.specs.declared.Verdict.TheVariants.{Passes, Wrong}
 use Rattle.kinds.specs.declared.RowState.{RowState}
 use Rattle.kinds.specs.declared.RowState.TheVariants.{Free, Fresh, Waiting, Active}
 use Rattle.kinds.specs.declared.Place.{Place}
@@ -64,10 +64,10 @@ FedKeeps n (more s) = (n + 1 ≡ in_hand_at s.place) × Fits s.place s.head
 FedKeeps n (ends e s) = n + 1 ≡ ended_by e s + in_hand_at s.place
 
 -- eight header bytes are in: the header is judged
-judged_keeps : (v : Verdict) (head room : List ℕ) → verdict_of (header_at head 0) ≡ v → FedKeeps 7 (judged v head room)
+judged_keeps : (v : Result Unit Fault) (head room : List ℕ) → verdict_of (header_at head 0) ≡ v → FedKeeps 7 (judged v head room)
 unfolding FedKeeps
-judged_keeps Passes head room e = (refl, passes-some (header_at head 0) e)
-judged_keeps (Wrong fault) head room e =
+judged_keeps (Ok tt) head room e = (refl, passes-some (header_at head 0) e)
+judged_keeps (Err fault) head room e =
     pick_case (λ s. 8 ≡ ended_by (wrong fault) s + in_hand_at s.place) (closes fault) _ _ (λ _. refl)
     (λ _. pick_case (λ s. 8 ≡ ended_by (wrong fault) s + in_hand_at s.place) (eqb (header_at head 0).length 0) _ _ (λ _. refl) (λ _. refl))
 
@@ -121,10 +121,10 @@ FedRests : Fed → Type 0
 FedRests (more s) = Unit {0}
 FedRests (ends e s) = Rests e s
 
-judged_rests : (v : Verdict) (head room : List ℕ) → FedRests (judged v head room)
+judged_rests : (v : Result Unit Fault) (head room : List ℕ) → FedRests (judged v head room)
 unfolding FedRests
-judged_rests Passes head room = tt
-judged_rests (Wrong fault) head room = tt
+judged_rests (Ok tt) head room = tt
+judged_rests (Err fault) head room = tt
 
 fed_rests : (p : Place) (head room : List ℕ) (byte : ℕ) → FedRests (feed_at p head room byte)
 unfolding FedRests

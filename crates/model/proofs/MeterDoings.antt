@@ -1,6 +1,7 @@
 -- What a farm does, for any property of the farm and of the entries said so far: if closing a row, giving a row that has nothing in hand
 -- a new state, speaking, changing line, clock and marks, and ageing keep it, then settling and every call keep it.
 -- Assumes nothing.
+use Rattle.std.proofs.Common.{Option, Some, None}
 use Prim.Native.Nat.{ℕ, zero, suc, ◌+◌, ◌≤◌, ◌<◌}
 use mathlib.Core.Path.{◌≡◌, refl, sym, ap, subst, ◌∙◌}
 use mathlib.Core.Bool.{Bool, true, false, false≢true}
@@ -10,8 +11,6 @@ use native.Mathlib.Omega.{arith}
 use lib.Dec.{eqb, leb}
 use lib.ListN.{length}
 use borrow.Author.Tests.{eqb-true, leb-true, leb-false}
-use Rattle.octets.specs.declared.Found.{Found}
-use Rattle.octets.specs.declared.Found.TheVariants.{At, Nothing}
 use Rattle.octets.specs.Search.{first_at, count_if}
 use Rattle.octets.specs.Fold.{up_to}
 use Rattle.kinds.specs.declared.Clock.{Clock}
@@ -163,10 +162,10 @@ pub record Picked (p : Row → Bool) (rows : List Row) (k i : ℕ) : Type 0 wher
   pub inside : seat < length rows
   pub is : p (row_at rows seat) ≡ true
 
-nothing_at : {i : ℕ} → Nothing ≡ At i → ⊥
+nothing_at : {i : ℕ} → None ≡ Some i → ⊥
 nothing_at e = let z : ◌≡◌ {A = ℕ} 0 1 = cc in omega arith
 
-pub first_picked : (p : Row → Bool) (rows : List Row) (k i : ℕ) → first_at p k rows ≡ At i → Picked p rows k i
+pub first_picked : (p : Row → Bool) (rows : List Row) (k i : ℕ) → first_at p k rows ≡ Some i → Picked p rows k i
 unfolding first_at
 first_picked p [] k i e = absurd (nothing_at e)
 first_picked p (x ∷ rows) k i e =
@@ -174,7 +173,7 @@ first_picked p (x ∷ rows) k i e =
     (λ t. let r = first_picked p rows (suc k) i (rw t at e) in
     record { seat = suc r.seat; at = omega (arith, r.at); inside = omega (arith, r.inside); is = r.is })
   where
-    here : At k ≡ At i → i ≡ k + 0
+    here : Some k ≡ Some i → i ≡ k + 0
     here e = let z : k ≡ i = cc in omega arith
 
 active_open : (a : ℕ) (r : Row) (s : RowState) → r.state ≡ s → active_as a r ≡ true → is_open r ≡ true
@@ -193,15 +192,15 @@ module _ (own : FarmSheet) (f : Farm) (within : (i : ℕ) → own.rows ≤ i →
   all-owned : Owned own (asks All)
   all-owned i r t = inr (is_active_open r r.state refl t)
 
-  holder_owned : (x : Found) → first_at (active_as a) 0 f.rows ≡ x → by_holder own f.rows x ≡ Ask check → Owned own (asks check)
-  holder_owned (At s) p e =
+  holder_owned : (x : Option ℕ) → first_at (active_as a) 0 f.rows ≡ x → by_holder own f.rows x ≡ Ask check → Owned own (asks check)
+  holder_owned (Some s) p e =
       λ i r t.
       let q = first_picked (active_as a) f.rows 0 s p in
       let c : check ≡ One s = cc in
       let u : eqb i s ≡ true = ap (λ (y : Check). asks y i r) (sym c) ∙ t in
       let b = open_below own f within q.seat (active_open a (row_at f.rows q.seat) (row_at f.rows q.seat).state refl q.is) in
       inl (omega (arith, eqb-true i s u, q.at, b))
-  holder_owned Nothing p e =
+  holder_owned None p e =
       pick_case (λ (d : Decision). d ≡ Ask check → Owned own (asks check)) (leb own.quota (count_if is_active f.rows)) _ _
       (λ _ d. let c : check ≡ All = cc in subst (λ (y : Check). Owned own (asks y)) (sym c) all-owned)
       (λ _ d. absurd (let z : ◌≡◌ {A = ℕ} 0 1 = cc in omega arith)) e

@@ -1,6 +1,8 @@
 -- A property that the single doings of a farm keep (MeterDoings) is kept by the calls of a farm: a call starts with nothing said, on a farm
 -- that keeps rule 4.
 -- Assumes nothing.
+use Rattle.std.proofs.Common.{Option, Some, None}
+use Rattle.kinds.specs.declared.Reply.{Reply}
 use Prim.{Unit, tt}
 use Prim.Native.Nat.{ℕ, zero, suc, ◌≤◌, ◌<◌}
 use mathlib.Core.Path.{◌≡◌, refl, sym, ap, ◌∙◌}
@@ -11,8 +13,6 @@ use native.Mathlib.Nat.{not-suc-le-zero}
 use native.Mathlib.Omega.{arith}
 use lib.Dec.{eqb, leb}
 use lib.ListN.{get_or, length, take}
-use Rattle.octets.specs.declared.Found.{Found}
-use Rattle.octets.specs.declared.Found.TheVariants.{At, Nothing}
 use Rattle.octets.specs.Choice.{pick, one}
 use Rattle.octets.specs.Search.{first_at}
 use Rattle.kinds.specs.declared.Request.{Request}
@@ -23,8 +23,6 @@ use Rattle.kinds.specs.declared.RowState.TheVariants.{Free, Fresh, Waiting, Acti
 use Rattle.kinds.specs.declared.Place.{Place}
 use Rattle.kinds.specs.declared.Row.{Row}
 use Rattle.kinds.specs.declared.Item.{Item}
-use Rattle.kinds.specs.declared.Answer.{Answer}
-use Rattle.kinds.specs.declared.Answer.TheVariants.{Nothing as NoAnswer, With}
 use Rattle.kinds.specs.declared.DatagramVerdict.{DatagramVerdict}
 use Rattle.kinds.specs.declared.DatagramVerdict.TheVariants.{NotAnswered, Passes, Wrong}
 use Rattle.wire.specs.Header.{header_at, closes}
@@ -240,7 +238,7 @@ pub record Opens (own : FarmSheet) (f : Farm) (seat : ℕ) : Type 0 where
   pub inside : seat < length f.rows
   pub is_freed : is_free (row_at f.rows seat) ≡ true
 
-pub opens_at : (own : FarmSheet) (f : Farm) (seat : ℕ) → first_at is_free 0 (take own.rows f.rows) ≡ At seat → Opens own f seat
+pub opens_at : (own : FarmSheet) (f : Farm) (seat : ℕ) → first_at is_free 0 (take own.rows f.rows) ≡ Some seat → Opens own f seat
 opens_at own f seat e =
     let q = first_picked is_free (take own.rows f.rows) 0 seat e in
     let z : q.seat ≡ seat = omega (arith, q.at) in
@@ -260,11 +258,11 @@ limit_open (Active a c) e = refl
 
 -- ---- no datagram is answered by a close
 
-abbrev closes_by : Answer → Bool
-closes_by NoAnswer = false
-closes_by (With reply) = is_close reply
+abbrev closes_by : Option Reply → Bool
+closes_by None = false
+closes_by (Some reply) = is_close reply
 
-either_way : (b : Bool) (x y : Answer) → closes_by x ≡ false → closes_by y ≡ false → closes_by (pick b x y) ≡ false
+either_way : (b : Bool) (x y : Option Reply) → closes_by x ≡ false → closes_by y ≡ false → closes_by (pick b x y) ≡ false
 either_way true x y e f = e
 either_way false x y e f = f
 
@@ -290,9 +288,9 @@ unfolding answer_to
 datagram_calls d farm opened = verdict_calls (datagram_verdict d) d farm opened
 
 module _ {own : FarmSheet} {Q : List Item → Farm → Type 0} (laws : Laws own Q) where
-  connected_got : (h : Held) (x : Found) → first_at is_free 0 (take own.rows h.farm.rows) ≡ x → Q [] h.farm → Got Q (connected_at own h x)
-  connected_got h Nothing e q = tt
-  connected_got h (At seat) e q =
+  connected_got : (h : Held) (x : Option ℕ) → first_at is_free 0 (take own.rows h.farm.rows) ≡ x → Q [] h.farm → Got Q (connected_at own h x)
+  connected_got h None e q = tt
+  connected_got h (Some seat) e q =
       let o = opens_at own h.farm seat e in
       let r = row_at h.farm.rows seat in
       laws.puts [] seat (Fresh (clock_of 0)) h.farm o.below refl (free_hand r.state r.place o.is_freed) q
@@ -335,13 +333,13 @@ module _ {own : FarmSheet} {Q : List Item → Farm → Type 0} (laws : Laws own 
       (aged_ready (clock_run f.line f) (run_ready f.line f (good_ready good q))))
       (λ js k. settle_keeps laws _ js _ k.keeps)
 
-  answers_keeps : (x : Answer) (f : Farm) → closes_by x ≡ false → Q [] f → Q (answers x) f
-  answers_keeps NoAnswer f e q = q
-  answers_keeps (With reply) f e q = laws.speaks [] _ f e q
+  answers_keeps : (x : Option Reply) (f : Farm) → closes_by x ≡ false → Q [] f → Q (answers x) f
+  answers_keeps None f e q = q
+  answers_keeps (Some reply) f e q = laws.speaks [] _ f e q
 
-  tester_got : (h : Held) (from to : ℕ) (user : List ℕ) (x : Found) → Q [] h.farm → Got Q (to_tester own h from to user x)
-  tester_got h from to user Nothing q = tt
-  tester_got h from to user (At seat) q = laws.speaks [] _ h.farm refl q
+  tester_got : (h : Held) (from to : ℕ) (user : List ℕ) (x : Option ℕ) → Q [] h.farm → Got Q (to_tester own h from to user x)
+  tester_got h from to user None q = tt
+  tester_got h from to user (Some seat) q = laws.speaks [] _ h.farm refl q
 
   controller_got : (h : Held) (from to : ℕ) (user : List ℕ) → Q [] h.farm → Got Q (controller_move own h from to user)
   unfolding controller_move

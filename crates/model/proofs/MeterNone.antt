@@ -1,5 +1,7 @@
 -- A farm that the table has no slot for: no bytes are ever taken from it, so that its meters are 0 and the history says so.
 -- Assumes nothing.
+use Rattle.std.proofs.Common.{Option, Some, None}
+use Rattle.kinds.specs.declared.FarmNo.{FarmNo}
 use Prim.Native.Nat.{ℕ, zero, suc, ◌+◌, ◌≤◌, ◌<◌}
 use mathlib.Core.Path.{◌≡◌, refl, sym, ap, subst, ◌∙◌}
 use mathlib.Core.List.{List, [], ◌∷◌, append-nil}
@@ -10,8 +12,6 @@ use borrow.Author.Tests.{eqb-true, eqb-false, ne_eqb}
 use Rattle.octets.specs.Choice.{both}
 use Rattle.kinds.specs.declared.Item.{Item}
 use Rattle.kinds.specs.declared.Row.{Row}
-use Rattle.sheet.specs.declared.rows.Owner.{Owner}
-use Rattle.sheet.specs.declared.rows.Owner.TheVariants.{Seat, Nobody}
 use Rattle.sheet.specs.Sheet.{farm_count}
 use Rattle.sheet.specs.Rows.{owner_of}
 use Rattle.sheet.proofs.RowsLaws.{IsSeat, owner_seat}
@@ -90,10 +90,10 @@ module _ (s : List ℕ) (g : ℕ) (isFarm : g < farm_count s) (t : Table) (out :
       skips_other (bytes_from row input) (λ n. rw (not-owned (slot_sheet s g) row away) refl)
       (λ i n l. rw (ne_eqb row ((slot_sheet s g).first + i) (λ z. away i l (sym z))) refl) _)
 
-  owner_skips : (row : ℕ) (input : List ℕ) (o : Owner) → owner_of s row ≡ o
+  owner_skips : (row : ℕ) (input : List ℕ) (o : Option (FarmNo × ℕ)) → owner_of s row ≡ o
       → Skips (bytes_from row input) (said_by (called s t (of_owner o (λ seat. bytes seat input))))
-  owner_skips row input (Seat f seat) e = bytes_skips row f.0 seat input (owner_seat s row f.0 seat e)
-  owner_skips row input Nobody e = skips_refused (bytes_from row input)
+  owner_skips row input (Some (f, seat)) e = bytes_skips row f.0 seat input (owner_seat s row f.0 seat e)
+  owner_skips row input None e = skips_refused (bytes_from row input)
 
   call_skips : (call : Call) → Skips call (said_by (called s t (whose s call)))
   unfolding whose

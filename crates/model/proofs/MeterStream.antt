@@ -1,6 +1,8 @@
 -- A row's place in its stream is what the bytes taken since connect say: feeding bytes one by one, the bytes in hand are those after
 -- the last finished message.
 -- Assumes nothing.
+use Rattle.std.proofs.Common.{Result, Ok, Err}
+use Rattle.kinds.specs.declared.Fault.{Fault}
 use Prim.Native.Nat.{ℕ, zero, suc, ◌+◌, ◌≤◌, ◌<◌}
 use mathlib.Core.Path.{◌≡◌, refl, sym, ap, subst, ◌∙◌}
 use mathlib.Core.Bool.{true, false, false≢true}
@@ -10,8 +12,6 @@ use native.Mathlib.Omega.{arith}
 use lib.Dec.{eqb, ltb}
 use lib.ListN.{get_or, set, length, take, replicate, length-append, length-set, length-replicate}
 use borrow.Author.Tests.{ltb-true, ltb-false, eqb-true, eqb-false}
-use Rattle.kinds.specs.declared.Verdict.{Verdict}
-use Rattle.kinds.specs.declared.Verdict.TheVariants.{Passes, Wrong}
 use Rattle.kinds.specs.declared.Place.{Place}
 use Rattle.kinds.specs.declared.Place.TheVariants.{Header, Reading, Skipping}
 use Rattle.wire.specs.declared.header.Header.{Header as Head}
@@ -131,10 +131,10 @@ module _ (log whole part : List ℕ) (cut : log ≡ whole ++ part) (is_whole : W
       sym (length-append whole part) ∙ sym (ap length cut)
 
   -- eight header bytes are in
-  judged_lands : (v : Verdict) (head room : List ℕ) → verdict_of (header_at part 0) ≡ v → header_at head 0 ≡ header_at part 0
+  judged_lands : (v : Result Unit Fault) (head room : List ℕ) → verdict_of (header_at part 0) ≡ v → header_at head 0 ≡ header_at part 0
       → length part ≡ header_size → FedLands log (judged v head room)
   unfolding FedLands
-  judged_lands Passes head room v h l =
+  judged_lands (Ok tt) head room v h l =
       record {
         whole = whole;
         part = part;
@@ -143,7 +143,7 @@ module _ (log whole part : List ℕ) (cut : log ≡ whole ++ part) (is_whole : W
         at =
             record { size = l; short = passes-some (header_at part 0) v; goes = ap stops v; heads = h };
       }
-  judged_lands (Wrong fault) head room v h l =
+  judged_lands (Err fault) head room v h l =
       record {
         goes =
             λ c. rw c

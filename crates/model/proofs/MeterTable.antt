@@ -1,5 +1,7 @@
 -- The logs and meters of one farm after any call on the table.
 -- Assumes nothing.
+use Rattle.std.proofs.Common.{Option, Some, None}
+use Rattle.kinds.specs.declared.FarmNo.{FarmNo}
 use Prim.Native.Nat.{ℕ, zero, suc, ◌+◌, ◌-◌, ◌<◌}
 use mathlib.Core.Path.{◌≡◌, refl, sym, ap, subst, ◌∙◌}
 use mathlib.Core.Bool.{false}
@@ -9,13 +11,9 @@ use native.Mathlib.Omega.{arith}
 use lib.Dec.{eqb, leb, ltb}
 use lib.ListN.{set, length, take}
 use borrow.Author.Tests.{eqb-true, eqb-false, ne_eqb, ltb-true, leb-true, lt-ltb}
-use Rattle.octets.specs.declared.Found.{Found}
-use Rattle.octets.specs.declared.Found.TheVariants.{At, Nothing}
 use Rattle.octets.specs.Choice.{pick, both}
 use Rattle.octets.specs.Search.{first_at}
 use Rattle.kinds.specs.declared.Item.{Item}
-use Rattle.sheet.specs.declared.rows.Owner.{Owner}
-use Rattle.sheet.specs.declared.rows.Owner.TheVariants.{Seat, Nobody}
 use Rattle.sheet.specs.Sheet.{farm_count}
 use Rattle.sheet.specs.Rows.{rows_owned, first_row, owner_of}
 use Rattle.sheet.proofs.RowsLaws.{IsSeat, rows_apart, owner_seat}
@@ -66,10 +64,10 @@ connect-row own h x e = go (first_at is_free 0 (take own.rows h.farm.rows)) refl
     row_in (refused n) = 0
     row_in (gave y) = y.row
 
-    go : (o : Found) → first_at is_free 0 (take own.rows h.farm.rows) ≡ o → connected_at own h o ≡ gave x
+    go : (o : Option ℕ) → first_at is_free 0 (take own.rows h.farm.rows) ≡ o → connected_at own h o ≡ gave x
         → (k : ℕ) × (k < own.rows) × (x.row ≡ own.first + k)
-    go Nothing p q = absurd (let z : ◌≡◌ {A = ℕ} 0 1 = cc in omega arith)
-    go (At seat) p q = (seat, (opens_at own h.farm seat p).below, sym (ap row_in q))
+    go None p q = absurd (let z : ◌≡◌ {A = ℕ} 0 1 = cc in omega arith)
+    go (Some seat) p q = (seat, (opens_at own h.farm seat p).below, sym (ap row_in q))
 
 -- ---- a tick closes on farm g's rows what farm g closes
 
@@ -209,15 +207,15 @@ module _ (s : List ℕ) (g : ℕ) (isFarm : g < farm_count s) (t : Table) (insid
           foreign s f g p.farm_within isFarm n i l seat (omega (arith, p.seat_within, rows_is s f p.farm_within))
           (omega (arith, p.is_row, first-is s f p.farm_within))
 
-  owner_comes : (row : ℕ) (input : List ℕ) (o : Owner) → owner_of s row ≡ o → Comes (bytes_from row input) (called s t (of_owner o (λ seat. bytes seat input)))
-  owner_comes row input (Seat f seat) e = bytes_comes row f.0 seat input (owner_seat s row f.0 seat e)
-  owner_comes row input Nobody e = refused_comes (bytes_from row input) 6
+  owner_comes : (row : ℕ) (input : List ℕ) (o : Option (FarmNo × ℕ)) → owner_of s row ≡ o → Comes (bytes_from row input) (called s t (of_owner o (λ seat. bytes seat input)))
+  owner_comes row input (Some (f, seat)) e = bytes_comes row f.0 seat input (owner_seat s row f.0 seat e)
+  owner_comes row input None e = refused_comes (bytes_from row input) 6
 
-  peer_comes : (row : ℕ) (o : Owner) → owner_of s row ≡ o → Comes (peer_closed_on row) (called s t (of_owner o (λ seat. peer_closed seat)))
-  peer_comes row (Seat f seat) e =
+  peer_comes : (row : ℕ) (o : Option (FarmNo × ℕ)) → owner_of s row ≡ o → Comes (peer_closed_on row) (called s t (of_owner o (λ seat. peer_closed seat)))
+  peer_comes row (Some (f, seat)) e =
       named_comes (peer_closed_on row) (peer_closed seat) f.0 (λ _. refl) (λ _ _. refl) refl
       (told_peer (slot_sheet s g) T L (slot t g) (goods g isFarm) logged row seat) (owner_seat s row f.0 seat e).farm_within
-  peer_comes row Nobody e = refused_comes (peer_closed_on row) 6
+  peer_comes row None e = refused_comes (peer_closed_on row) 6
 
   -- a call that names a farm
   if_farm : (call : Call) (f : ℕ) (c : Own) → (f < farm_count s → Comes call (called s t (farms f c)))

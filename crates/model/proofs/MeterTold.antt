@@ -1,5 +1,6 @@
 -- The logs and meters of a farm after each of its own calls, and that no call of a farm closes a row of another.
 -- Assumes nothing.
+use Rattle.std.proofs.Common.{Option, Some, None}
 use Prim.{Unit, tt}
 use Prim.Native.Nat.{ℕ, ◌+◌, ◌<◌}
 use mathlib.Core.Path.{◌≡◌, refl, sym, ap, subst, ◌∙◌}
@@ -10,8 +11,6 @@ use native.Mathlib.Omega.{arith}
 use lib.Dec.{eqb}
 use lib.ListN.{get_or, take}
 use borrow.Author.Tests.{eqb-true, eq-eqb, ne_eqb, le-leb, lt-ltb}
-use Rattle.octets.specs.declared.Found.{Found}
-use Rattle.octets.specs.declared.Found.TheVariants.{At, Nothing}
 use Rattle.octets.specs.Choice.{pick, both}
 use Rattle.octets.specs.Search.{first_at}
 use Rattle.kinds.specs.declared.RowState.{RowState}
@@ -141,10 +140,10 @@ module _ (own : FarmSheet) (T : ℕ) (L : ℕ → Log) where
     free_begun (Waiting q) p head l e z = absurd (false≢true e)
     free_begun (Active a c) p head l e z = absurd (false≢true e)
 
-    connected_told : (f : ℕ) (x : Found) → first_at is_free 0 (take own.rows h.farm.rows) ≡ x
+    connected_told : (f : ℕ) (x : Option ℕ) → first_at is_free 0 (take own.rows h.farm.rows) ≡ x
         → Got (λ is f. Logged own T (after own is L) f) (connected_at own h x) → Told (connect_to f) (connected_at own h x)
-    connected_told f Nothing e q = tt
-    connected_told f (At seat) e q =
+    connected_told f None e q = tt
+    connected_told f (Some seat) e q =
         subst (λ (k : ℕ). Logged own k (after own [] (based (connect_to f) (own.first + seat) 0)) (with_row h.farm seat fresh_row)) (sym (add-zero T))
         (logged_same own T (after own [] L) (after own [] (based (connect_to f) (own.first + seat) 0)) (with_row h.farm seat fresh_row)
         (λ i _. ap (filed_by (own.first + i) []) (took-none _ ∙ opened i)) q)

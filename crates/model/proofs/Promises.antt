@@ -1,6 +1,7 @@
 -- THE PROMISES. What the asker demands, of the rules, as theorems over histories: calls from a fresh table, under one farm sheet, with no second
 -- start. Each statement stands here whole, under the sentence that it is; the proofs are in the files named.
 -- Assumes nothing.
+use Rattle.std.proofs.Common.{Some}
 use Prim.Native.Nat.{ℕ, ◌+◌, ◌*◌, ◌≤◌, ◌<◌}
 use mathlib.Core.Path.{◌≡◌}
 use mathlib.Core.Bool.{true, false}
@@ -8,7 +9,6 @@ use mathlib.Core.List.{List, [], ◌∷◌, ◌++◌, map}
 use lib.ListN.{length, get_or}
 use Rattle.kinds.specs.declared.Request.{Request}
 use Rattle.kinds.specs.declared.Reply.TheVariants.{Activation}
-use Rattle.sheet.specs.declared.rows.Owner.TheVariants.{Seat}
 use Rattle.sheet.specs.Sheet.{farm_count, farm_no}
 use Rattle.sheet.specs.Rules.{GoodSheet}
 use Rattle.sheet.specs.Rows.{owner_of}
@@ -81,7 +81,7 @@ never_active_twice = address.history_once
 -- connection and the controller is known, reachable and of that farm." (`HandedOn` says both ways, and that what is handed on is the payload)
 
 pub handed_on_exactly : (s : List ℕ) (rooms : List (List (List ℕ))) (ms : List Made) (l : Lent) (r f seat : ℕ) (input : List ℕ) (d : Did)
-    → most_payload ≤ length (get_or (get_or rooms f []) seat []) → owner_of s r ≡ Seat (farm_no f) seat
+    → most_payload ≤ length (get_or (get_or rooms f []) seat []) → owner_of s r ≡ Some (farm_no f, seat)
     → step s l (run s (fresh rooms) ms) (bytes_from r input) ≡ did d
     → HandedOn (slot_sheet s f) (slot (run s (fresh rooms) ms) f) seat input d.items d.long
 handed_on_exactly = handed.history_hands_on
@@ -94,7 +94,7 @@ nothing_else_hands_on = other_calls_hand_nothing_on
 -- rules give; its entries begin with that 0006. (One that needs a check is demand 3's.)
 
 pub answered_at_once : (s : List ℕ) (rooms : List (List (List ℕ))) (ms : List Made) (l : Lent) (r f seat : ℕ) (input : List ℕ) (q : Request) (code : ℕ)
-    (d : Did) → most_payload ≤ length (get_or (get_or rooms f []) seat []) → owner_of s r ≡ Seat (farm_no f) seat
+    (d : Did) → most_payload ≤ length (get_or (get_or rooms f []) seat []) → owner_of s r ≡ Some (farm_no f, seat)
     → step s l (run s (fresh rooms) ms) (bytes_from r input) ≡ did d → ReadableNow (slot_sheet s f) (slot (run s (fresh rooms) ms) f) seat input q code
     → Begins (says (slot_sheet s f) seat (Activation q.address (slot_sheet s f).entity code)) d.items
 answered_at_once = at_once.history_at_once

@@ -1,6 +1,8 @@
 -- Demand 1: "A call it can't serve is refused by a number from our list, exactly when the list says". The list is `rules`, a rule for each number in the
 -- list's order; `Refusals` says of each number when it is given.
 -- Assumes nothing.
+use Rattle.std.proofs.Common.{Option, Some, None}
+use Rattle.kinds.specs.declared.FarmNo.{FarmNo}
 use Prim.{Unit}
 use Prim.Native.Nat.{ℕ, zero, suc, ◌≤◌, ◌<◌}
 use mathlib.Core.Path.{◌≡◌, refl, sym, ◌∙◌}
@@ -11,8 +13,6 @@ use native.Mathlib.Omega.{arith}
 use lib.Dec.{eqb, leb, ltb}
 use lib.ListN.{length, take}
 use lib.Seq.{take-length}
-use Rattle.octets.specs.declared.Found.{Found}
-use Rattle.octets.specs.declared.Found.TheVariants.{At, Nothing}
 use Rattle.octets.specs.Choice.{pick, both, unless}
 use Rattle.octets.specs.Says.{Says}
 use Rattle.octets.specs.Search.{first_at}
@@ -21,8 +21,6 @@ use Rattle.octets.proofs.ChoiceLaws.{says_both, says-true, says-not, says_le, sa
 use Rattle.kinds.specs.declared.RowState.{RowState}
 use Rattle.kinds.specs.declared.RowState.TheVariants.{Free, Fresh, Waiting, Active}
 use Rattle.kinds.specs.declared.Row.{Row}
-use Rattle.sheet.specs.declared.rows.Owner.{Owner}
-use Rattle.sheet.specs.declared.rows.Owner.TheVariants.{Seat, Nobody}
 use Rattle.sheet.specs.Sheet.{farm_count}
 use Rattle.sheet.specs.Rows.{owner_of}
 use Rattle.sheet.specs.Rules.{GoodSheet}
@@ -42,9 +40,9 @@ pub record Some-row (p : Row → Bool) (rows : List Row) (n : ℕ) : Type 0 wher
   pub there : seat < length rows
   pub holds : p (row_at rows seat) ≡ true
 
-abbrev is_at : Found → Bool
-is_at (At i) = true
-is_at Nothing = false
+abbrev is_at : Option ℕ → Bool
+is_at (Some i) = true
+is_at None = false
 
 some-says : (p : Row → Bool) (k n : ℕ) (rows : List Row) → Says (is_at (first_at p k (take n rows))) (Some-row p rows n)
 unfolding first_at
@@ -60,7 +58,7 @@ some-says p k (suc n) (x ∷ xs) = by (p x) refl (some-says p (suc k) n xs)
     front e (suc i) l m h = record { seat = i; within = omega arith; there = omega arith; holds = h }
 
     by : (b : Bool) → p x ≡ b → Says (is_at (first_at p (suc k) (take n xs))) (Some-row p xs n)
-        → Says (is_at (pick b (At k) (first_at p (suc k) (take n xs)))) (Some-row p (x ∷ xs) (suc n))
+        → Says (is_at (pick b (Some k) (first_at p (suc k) (take n xs)))) (Some-row p (x ∷ xs) (suc n))
     by true e u = says-yes (record { seat = 0; within = omega arith; there = omega arith; holds = e })
     by false e u = says_of tail (λ h. front e h.seat h.within h.there h.holds) u
 
@@ -78,9 +76,9 @@ module _ (s : List ℕ) where
   FarmKnown (message_from f from to user) = f < farm_count s
 
   -- the row with this number over the whole sheet; one that is nobody's is not open
-  abbrev pub row_in : Table → Owner → Row
-  row_in t (Seat f seat) = row_at (slot t f.0).farm.rows seat
-  row_in t Nobody = free_row
+  abbrev pub row_in : Table → Option (FarmNo × ℕ) → Row
+  row_in t (Some (f, seat)) = row_at (slot t f.0).farm.rows seat
+  row_in t None = free_row
 
   -- 6: "row not open"
   abbrev pub RowOpen : Table → Call → Type 0
@@ -194,18 +192,18 @@ module _ (s : List ℕ) where
     farm-number true f c x e = e
     farm-number false f c x e = refl
 
-    connect-number : (f : ℕ) (x : Found)
+    connect-number : (f : ℕ) (x : Option ℕ)
         → number_of (moved_to t f (connected_at (slot_sheet s f) (slot t f) x)) ≡ next (next (next (next (next (next (next (unless (is_at x) 1 0)))))))
-    connect-number f (At seat) = refl
-    connect-number f Nothing = refl
+    connect-number f (Some seat) = refl
+    connect-number f None = refl
 
-    message-number : (f from to : ℕ) (user : List ℕ) (a b c : Bool) (x : Found)
+    message-number : (f from to : ℕ) (user : List ℕ) (a b c : Bool) (x : Option ℕ)
         → number_of
         (moved_to t f
         (unless a (refused 9) (unless b (refused 9) (unless c (refused 10) (to_tester (slot_sheet s f) (slot t f) from to user x))))) ≡
         next (next (next (next (next (next (next (next (unless (both a b) 1 (next (unless (both c (is_at x)) 1 0))))))))))
-    message-number f from to user true true true (At seat) = refl
-    message-number f from to user true true true Nothing = refl
+    message-number f from to user true true true (Some seat) = refl
+    message-number f from to user true true true None = refl
     message-number f from to user true true false x = refl
     message-number f from to user true false c x = refl
     message-number f from to user false b c x = refl
@@ -218,25 +216,25 @@ module _ (s : List ℕ) where
     bytes-number f seat input r (Waiting q) e = rw e
     bytes-number f seat input r (Active a idle) e = rw e
 
-    bytes-owner : (input : List ℕ) (o : Owner)
+    bytes-owner : (input : List ℕ) (o : Option (FarmNo × ℕ))
         → number_of (called s t (of_owner o (λ seat. bytes seat input))) ≡
         next (next (next (next (next (unless (is_open (row_in t o)) 1 (next (unless (not (is_waiting (row_in t o))) 1 0)))))))
     unfolding move
-    bytes-owner input (Seat f seat) = bytes-number f.0 seat input (row_in t (Seat f seat)) (row_in t (Seat f seat)).state refl
-    bytes-owner input Nobody = refl
+    bytes-owner input (Some (f, seat)) = bytes-number f.0 seat input (row_in t (Some (f, seat))) (row_in t (Some (f, seat))).state refl
+    bytes-owner input None = refl
 
     closed-number : (f : ℕ) (b : Bool) (h : Held) (x : Move) → number_of (moved_to t f x) ≡ 0
         → number_of (moved_to t f (pick b x (refused 6))) ≡ next (next (next (next (next (unless b 1 0)))))
     closed-number f true h x e = e
     closed-number f false h x e = refl
 
-    closed-owner : (o : Owner)
+    closed-owner : (o : Option (FarmNo × ℕ))
         → number_of (called s t (of_owner o (λ seat. peer_closed seat))) ≡ next (next (next (next (next (unless (is_open (row_in t o)) 1 0)))))
     unfolding move
-    closed-owner (Seat f seat) =
-        closed-number f.0 (is_open (row_in t (Seat f seat))) (slot t f.0)
+    closed-owner (Some (f, seat)) =
+        closed-number f.0 (is_open (row_in t (Some (f, seat)))) (slot t f.0)
         (moves (slot t f.0) (peer_gone (slot_sheet s f.0) seat (slot t f.0).farm)) refl
-    closed-owner Nobody = refl
+    closed-owner None = refl
 
     call-number : (c : Call) → number_of (called s t (whose s c)) ≡ next (next (next (next (first_failed (call_tests c)))))
     unfolding whose move connects datagram_move controller_move

@@ -1,5 +1,7 @@
 -- Demand 1, number by number: when each refusal is given, and that a refused call changes nothing.
 -- Assumes nothing.
+use Rattle.std.proofs.Common.{Option, Some, None}
+use Rattle.kinds.specs.declared.FarmNo.{FarmNo}
 use Prim.{Unit}
 use Prim.Native.Nat.{ℕ, ◌≤◌}
 use mathlib.Core.Path.{◌≡◌, refl, ap, ◌∙◌}
@@ -7,8 +9,6 @@ use mathlib.Core.Bool.{true}
 use mathlib.Core.List.{List, []}
 use mathlib.Core.Logic.{◌↔◌}
 use Rattle.octets.proofs.SaysLaws.{never}
-use Rattle.sheet.specs.declared.rows.Owner.{Owner}
-use Rattle.sheet.specs.declared.rows.Owner.TheVariants.{Seat, Nobody}
 use Rattle.sheet.specs.Sheet.{farm_count}
 use Rattle.sheet.specs.Rows.{owner_of}
 use Rattle.sheet.specs.Rules.{GoodSheet}
@@ -31,11 +31,11 @@ pub record OpenRow (s : List ℕ) (t : Table) (r : ℕ) : Type 0 where
 -- THE ROW IS OPEN exactly where it is some farm's and open there: a row that is nobody's is not
 pub open_row : (s : List ℕ) (t : Table) (r : ℕ) → (is_open (row_in s t (owner_of s r)) ≡ true) ↔ OpenRow s t r
 open_row s t r =
-    (λ e. by (owner_of s r) refl e, λ h. ap (λ (o : Owner). is_open (row_in s t o)) (seat_owner s r h.farm h.seat h.is_seat) ∙ h.is_open_there)
+    (λ e. by (owner_of s r) refl e, λ h. ap (λ (o : Option (FarmNo × ℕ)). is_open (row_in s t o)) (seat_owner s r h.farm h.seat h.is_seat) ∙ h.is_open_there)
   where
-    by : (o : Owner) → owner_of s r ≡ o → is_open (row_in s t o) ≡ true → OpenRow s t r
-    by (Seat f seat) e h = record { farm = f.0; seat = seat; is_seat = owner_seat s r f.0 seat e; is_open_there = h }
-    by Nobody e h = absurd (never h)
+    by : (o : Option (FarmNo × ℕ)) → owner_of s r ≡ o → is_open (row_in s t o) ≡ true → OpenRow s t r
+    by (Some (f, seat)) e h = record { farm = f.0; seat = seat; is_seat = owner_seat s r f.0 seat e; is_open_there = h }
+    by None e h = absurd (never h)
 
 -- ---- "A refusal returns its number, output length 0, bytes taken 0, row 255. Table and buffers stay byte for byte."
 

@@ -1,5 +1,7 @@
 -- Rule 4's test says the same as the record `Good`. The test asks only the seats that there are; beyond them every row is free.
 -- Assumes nothing.
+use Rattle.std.proofs.Common.{Result, Ok, Err}
+use Rattle.kinds.specs.declared.Fault.{Fault}
 use Prim.{Unit}
 use Prim.Native.Nat.{ℕ, suc, ◌+◌, ◌-◌, ◌≤◌, ◌<◌}
 use mathlib.Core.Path.{◌≡◌, refl, sym, ap, subst, ◌∙◌}
@@ -18,8 +20,6 @@ use Rattle.octets.proofs.ChoiceLaws.{says_both, says-either, says-not, says-true
 use Rattle.octets.proofs.FoldLaws.{every_says}
 use Rattle.octets.proofs.SearchLaws.{same_says}
 use Rattle.kinds.specs.declared.Fault.TheVariants.{Pattern, UnknownType, TooLong, WrongLength}
-use Rattle.kinds.specs.declared.Verdict.{Verdict}
-use Rattle.kinds.specs.declared.Verdict.TheVariants.{Passes, Wrong}
 use Rattle.kinds.specs.declared.RowState.{RowState}
 use Rattle.kinds.specs.declared.RowState.TheVariants.{Free, Fresh, Waiting, Active}
 use Rattle.kinds.specs.declared.Place.{Place}
@@ -44,16 +44,16 @@ use Rattle.model.proofs.LineRoom.{none_beyond}
 differ : {P : Type 0} → ◌≡◌ {A = ℕ} 0 1 → P
 differ z = absurd (omega arith)
 
-passes-says : (v : Verdict) → Says (passes v) (v ≡ Passes)
-passes-says Passes = says-yes refl
-passes-says (Wrong fault) = says_no (λ e. differ (cc))
+passes-says : (v : Result Unit Fault) → Says (passes v) (v ≡ Ok tt)
+passes-says (Ok tt) = says-yes refl
+passes-says (Err fault) = says_no (λ e. differ (cc))
 
-skip_says : (v : Verdict) → Says (is_skipped v) ((v ≡ Wrong UnknownType) ⊎ (v ≡ Wrong TooLong))
-skip_says Passes = says_no (⊎_elim (λ e. differ (cc)) (λ e. differ (cc)))
-skip_says (Wrong Pattern) = says_no (⊎_elim (λ e. differ (cc)) (λ e. differ (cc)))
-skip_says (Wrong UnknownType) = says-yes (inl refl)
-skip_says (Wrong TooLong) = says-yes (inr refl)
-skip_says (Wrong WrongLength) = says_no (⊎_elim (λ e. differ (cc)) (λ e. differ (cc)))
+skip_says : (v : Result Unit Fault) → Says (is_skipped v) ((v ≡ Err UnknownType) ⊎ (v ≡ Err TooLong))
+skip_says (Ok tt) = says_no (⊎_elim (λ e. differ (cc)) (λ e. differ (cc)))
+skip_says (Err Pattern) = says_no (⊎_elim (λ e. differ (cc)) (λ e. differ (cc)))
+skip_says (Err UnknownType) = says-yes (inl refl)
+skip_says (Err TooLong) = says-yes (inr refl)
+skip_says (Err WrongLength) = says_no (⊎_elim (λ e. differ (cc)) (λ e. differ (cc)))
 
 pub possible-says : (p : Place) (head : List ℕ) → Says (possible_at p head) (PossibleAt p head)
 possible-says (Header n) head = says_lt n header_size

@@ -1,12 +1,11 @@
 -- The line's rules look at three numbers of a farm's sheet only: its quota, its entity address and its first row. So a function that is
 -- handed these three does what the rules say of the whole sheet.
 -- Assumes nothing.
+use Rattle.std.proofs.Common.{Option, Some, None}
 use Prim.Native.Nat.{ℕ, zero, suc}
 use mathlib.Core.Path.{◌≡◌, refl, sym, ap, ◌∙◌}
 use mathlib.Core.Bool.{Bool}
 use mathlib.Core.List.{List, [], ◌∷◌, ◌++◌}
-use Rattle.octets.specs.declared.Found.{Found}
-use Rattle.octets.specs.declared.Found.TheVariants.{At, Nothing}
 use Rattle.octets.specs.Choice.{pick}
 use Rattle.octets.specs.Search.{first_at}
 use Rattle.kinds.specs.declared.Request.{Request}
@@ -63,9 +62,9 @@ module _ (a b : FarmSheet) (same : SameSite a b) where
   unfolding socket_rules
   socket_same rows address = by (first_at (active_as address) 0 rows)
     where
-      by : (x : Found) → by_holder a rows x ≡ by_holder b rows x
-      by (At seat) = refl
-      by Nothing = rw same.quota
+      by : (x : Option ℕ) → by_holder a rows x ≡ by_holder b rows x
+      by (Some seat) = refl
+      by None = rw same.quota
 
   asked_same : (check : Check) (i : ℕ) (f : Farm) → asked_if a check i f ≡ asked_if b check i f
   unfolding asked_if

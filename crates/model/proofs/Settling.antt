@@ -1,5 +1,6 @@
 -- Settling and the running check: where settling ends, and that a settled farm stays as it is.
 -- Assumes nothing.
+use Rattle.std.proofs.Common.{Option, Some, None}
 use Prim.Native.Nat.{ℕ, zero, suc, ◌+◌, ◌≤◌, ◌<◌}
 use mathlib.Core.Path.{◌≡◌, refl, sym, ap, subst, ◌∙◌}
 use mathlib.Core.Bool.{Bool, true, false, false≢true, true≢false}
@@ -10,8 +11,6 @@ use native.Mathlib.Omega.{arith}
 use lib.Dec.{leb}
 use lib.ListN.{get_or, length, replicate}
 use borrow.Author.Tests.{leb-false, leb-true, lt-leb, eq-eqb}
-use Rattle.octets.specs.declared.Found.{Found}
-use Rattle.octets.specs.declared.Found.TheVariants.{At, Nothing}
 use Rattle.octets.specs.Choice.{pick, one}
 use Rattle.octets.specs.Search.{first_at, count_if}
 use Rattle.octets.specs.Fold.{up_to}
@@ -181,11 +180,11 @@ silent_open check marks rows i h e = some_no (λ k. is_silent check marks k (row
 pub data Stands {A : Type 0} (p : A → Bool) (d : A) (l : List A) (s k : ℕ) : Type 0 where
   stands : (i : ℕ) → s ≡ k + i → i < length l → p (get_or l i d) ≡ true → Stands p d l s k
 
-pub first_stands : {A : Type 0} (p : A → Bool) (d : A) (l : List A) (s k : ℕ) → first_at p k l ≡ At s → Stands p d l s k
+pub first_stands : {A : Type 0} (p : A → Bool) (d : A) (l : List A) (s k : ℕ) → first_at p k l ≡ Some s → Stands p d l s k
 unfolding first_at
 first_stands p d [] s k e = absurd (let z : ◌≡◌ {A = ℕ} 0 1 = cc in omega arith)
 first_stands p d (x ∷ l) s k e =
-    pick_case (λ o. o ≡ At s → Stands p d (x ∷ l) s k) (p x) _ _
+    pick_case (λ o. o ≡ Some s → Stands p d (x ∷ l) s k) (p x) _ _
     (λ t q. let z : k ≡ s = cc in stands 0 (omega arith) (omega arith) t)
     (λ t q. later (first_stands p d l s (suc k) q)) e
   where
@@ -221,9 +220,9 @@ asks-some own q rows want check = by (first_at (active_as want) 0 rows) refl
     that : (s : ℕ) → Stands (active_as want) free_row rows s 0 → One s ≡ check → AsksSome own rows check
     that s (stands i z h t) e = asks_at i h (rw (← e) (eq-eqb i s (omega arith)))
 
-    by : (o : Found) → first_at (active_as want) 0 rows ≡ o → by_holder own rows o ≡ Ask check → AsksSome own rows check
-    by (At s) o e = that s (first_stands (active_as want) free_row rows s 0 o) (cc)
-    by Nothing o e =
+    by : (o : Option ℕ) → first_at (active_as want) 0 rows ≡ o → by_holder own rows o ≡ Ask check → AsksSome own rows check
+    by (Some s) o e = that s (first_stands (active_as want) free_row rows s 0 o) (cc)
+    by None o e =
         pick_case (λ d. d ≡ Ask check → AsksSome own rows check) (leb own.quota (count_if is_active rows)) _ _
         (λ t g. all (count-has is_active free_row rows (omega (arith, leb-true own.quota (count_if is_active rows) t))) (cc))
         (λ t g. absurd (let z : ◌≡◌ {A = ℕ} 0 1 = cc in omega arith)) e

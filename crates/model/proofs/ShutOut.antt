@@ -1,6 +1,7 @@
 -- Wrong cores that are shut out (document 01, "What the regulator reads"): one that always refuses, and one that always says 10. (One that
 -- does nothing is shut out by the bound; one that decides on joining by two days with one beginning: crate days_further.)
 -- Assumes nothing.
+use Rattle.std.proofs.Common.{Option, Some, None}
 use Prim.Native.Nat.{ℕ, zero, suc, ◌+◌, ◌≤◌, ◌<◌}
 use mathlib.Core.Path.{◌≡◌, refl, sym, ap, ◌∙◌}
 use mathlib.Core.Bool.{Bool, true, false, false≢true}
@@ -12,8 +13,6 @@ use borrow.Author.Tests.{lt-ltb, le-leb, eq-eqb}
 use Rattle.octets.specs.Choice.{both, either, one}
 use Rattle.octets.specs.Fold.{up_to}
 use Rattle.octets.specs.Search.{first_at, count_if, all, same_list}
-use Rattle.octets.specs.declared.Found.{Found}
-use Rattle.octets.specs.declared.Found.TheVariants.{At, Nothing}
 use Rattle.kinds.specs.declared.Request.{Request}
 use Rattle.kinds.specs.declared.Clock.{Clock}
 use Rattle.kinds.specs.declared.Row.{Row}
@@ -89,7 +88,7 @@ slot_new [] f = refl
 slot_new (r ∷ rooms) zero = refl
 slot_new (r ∷ rooms) (suc f) = slot_new rooms f
 
-first_free : (n k : ℕ) → 0 < n → 0 < k → first_at is_free 0 (take n (replicate k free_row)) ≡ At 0
+first_free : (n k : ℕ) → 0 < n → 0 < k → first_at is_free 0 (take n (replicate k free_row)) ≡ Some 0
 unfolding first_at
 first_free zero k h g = absurd (omega arith)
 first_free (suc n) zero h g = absurd (omega arith)
@@ -100,7 +99,7 @@ unfolding seat_count
 some_seat = omega arith
 
 -- the connect of a farm that has a row, on a new farm
-new_connects : (own : FarmSheet) (h : Held) → h.farm ≡ new_farm → 0 < own.rows → connects own h ≡ connected_at own h (At 0)
+new_connects : (own : FarmSheet) (h : Held) → h.farm ≡ new_farm → 0 < own.rows → connects own h ≡ connected_at own h (Some 0)
 unfolding connects new_farm
 new_connects own h e r = rw (e, first_free own.rows seat_count r some_seat) refl
 
@@ -148,7 +147,7 @@ is_answer Close = false
 is_answer HandOn = false
 
 -- a search finds what is there
-first_some : (p : Row → Bool) → p free_row ≡ false → (rows : List Row) (k i : ℕ) → p (row_at rows i) ≡ true → first_at p k rows ≡ Nothing → ⊥
+first_some : (p : Row → Bool) → p free_row ≡ false → (rows : List Row) (k i : ℕ) → p (row_at rows i) ≡ true → first_at p k rows ≡ None → ⊥
 unfolding first_at
 first_some p n [] k i e = λ z. false≢true (sym n ∙ e)
 first_some p n (r ∷ rows) k zero e = rw e (λ z. let c : ◌≡◌ {A = ℕ} 0 1 = cc in omega arith)
@@ -161,9 +160,9 @@ pub taken-is-not-answered : (own : FarmSheet) (seat holder : ℕ) (q : Request) 
 unfolding requested decide socket_rules
 taken-is-not-answered own seat holder q f known kind idle held = rw (known, le-leb q.kind 1 kind) (by (row_at f.rows seat).state idle)
   where
-    found : (x : Found) → first_at (active_as q.address) 0 f.rows ≡ x → said is_answer (decided_by own seat q (by_holder own f.rows x) f).items ≡ 0
-    found (At k) e = none-joined is_answer refl own seat q f
-    found Nothing e = absurd (first_some (active_as q.address) refl f.rows 0 holder held e)
+    found : (x : Option ℕ) → first_at (active_as q.address) 0 f.rows ≡ x → said is_answer (decided_by own seat q (by_holder own f.rows x) f).items ≡ 0
+    found (Some k) e = none-joined is_answer refl own seat q f
+    found None e = absurd (first_some (active_as q.address) refl f.rows 0 holder held e)
 
     by : (st : RowState) → is_active_state st ≡ false → said is_answer (decided_by own seat q (by_state own f.rows q.address st) f).items ≡ 0
     by Free e = found (first_at (active_as q.address) 0 f.rows) refl

@@ -1,5 +1,6 @@
 -- Every entry that a farm makes is on one of its own rows.
 -- Assumes nothing.
+use Rattle.std.proofs.Common.{Option, Some, None}
 use Prim.Native.Nat.{ℕ, zero, suc, ◌+◌, ◌<◌}
 use mathlib.Core.Path.{◌≡◌, refl, sym, ap, subst}
 use mathlib.Core.Bool.{Bool, true, false, false≢true, true≢false}
@@ -8,8 +9,6 @@ use native.Mathlib.Omega.{arith}
 use lib.Dec.{eqb, leb}
 use lib.ListN.{get_or, take, length}
 use borrow.Author.Tests.{le-leb, lt-ltb, eqb-true}
-use Rattle.octets.specs.declared.Found.{Found}
-use Rattle.octets.specs.declared.Found.TheVariants.{At, Nothing}
 use Rattle.octets.specs.Search.{first_at, all}
 use Rattle.octets.specs.Fold.{up_to}
 use Rattle.kinds.specs.declared.Item.{Item}
@@ -287,9 +286,9 @@ module _ (own : FarmSheet) (h : Held) (s : Sound own h.farm) where
   unfolding connects
   connects_mine = by (first_at is_free 0 (take own.rows h.farm.rows))
     where
-      by : (d : Found) → MineBy own (connected_at own h d)
-      by Nothing = tt
-      by (At seat) = nothing_mine own
+      by : (d : Option ℕ) → MineBy own (connected_at own h d)
+      by None = tt
+      by (Some seat) = nothing_mine own
 
   bytes-by_mine : (seat : ℕ) (input : List ℕ) (x : RowState) → (row_at h.farm.rows seat).state ≡ x → MineBy own (bytes_by own h seat input x)
   bytes-by_mine seat input x e = by x e

@@ -1,5 +1,6 @@
 -- Settling the line keeps the half `Sound` of rule 4.
 -- Assumes nothing.
+use Rattle.std.proofs.Common.{Option, Some, None}
 use Prim.Native.Nat.{ℕ, zero, suc, ◌+◌, ◌≤◌, ◌<◌}
 use mathlib.Core.Path.{◌≡◌, refl, sym, ap, subst, ◌∙◌}
 use mathlib.Core.Bool.{Bool, true, false, false≢true, true≢false}
@@ -8,8 +9,6 @@ use native.Mathlib.Omega.{arith}
 use lib.Dec.{eqb, leb}
 use lib.ListN.{length, length-replicate}
 use borrow.Author.Tests.{leb-true, leb-false, eqb-true}
-use Rattle.octets.specs.declared.Found.{Found}
-use Rattle.octets.specs.declared.Found.TheVariants.{At, Nothing}
 use Rattle.octets.specs.Choice.{pick, one}
 use Rattle.octets.specs.Search.{first_at, count_if}
 use Rattle.octets.specs.Fold.{up_to}
@@ -34,18 +33,18 @@ use Rattle.model.proofs.SoundClose.{closings_kept, closings_young, closings_coun
 
 -- ---- the row that is found
 
-first-from : (P : Found → Type 0) (p : Row → Bool) (k : ℕ) (rows : List Row)
-    → ((s : ℕ) → p (row_at rows s) ≡ true → s < length rows → P (At (k + s))) → (count_if p rows ≡ 0 → P Nothing) → P (first_at p k rows)
+first-from : (P : Option ℕ → Type 0) (p : Row → Bool) (k : ℕ) (rows : List Row)
+    → ((s : ℕ) → p (row_at rows s) ≡ true → s < length rows → P (Some (k + s))) → (count_if p rows ≡ 0 → P None) → P (first_at p k rows)
 unfolding first_at count_if
 first-from P p k [] found none = none refl
 first-from P p k (x ∷ xs) found none =
-    pick_case P (p x) _ _ (λ e. subst (λ n. P (At n)) (omega arith) (found 0 e (omega arith)))
-    (λ e. first-from P p (suc k) xs (λ s t h. subst (λ n. P (At n)) (omega arith) (found (suc s) t (omega arith)))
+    pick_case P (p x) _ _ (λ e. subst (λ n. P (Some n)) (omega arith) (found 0 e (omega arith)))
+    (λ e. first-from P p (suc k) xs (λ s t h. subst (λ n. P (Some n)) (omega arith) (found (suc s) t (omega arith)))
     (λ z. let o : one (p x) ≡ 0 = ap one e in none (omega arith)))
 
-pub first_case : (P : Found → Type 0) (p : Row → Bool) (rows : List Row) → ((s : ℕ) → p (row_at rows s) ≡ true → s < length rows → P (At s))
-    → (count_if p rows ≡ 0 → P Nothing) → P (first_at p 0 rows)
-first_case P p rows found none = first-from P p 0 rows (λ s e h. subst (λ n. P (At n)) (omega arith) (found s e h)) none
+pub first_case : (P : Option ℕ → Type 0) (p : Row → Bool) (rows : List Row) → ((s : ℕ) → p (row_at rows s) ≡ true → s < length rows → P (Some s))
+    → (count_if p rows ≡ 0 → P None) → P (first_at p 0 rows)
+first_case P p rows found none = first-from P p 0 rows (λ s e h. subst (λ n. P (Some n)) (omega arith) (found s e h)) none
 
 -- what the rules for a row that is not active can say
 pub socket_case : (P : Decision → Type 0) (own : FarmSheet) (rows : List Row) (a : ℕ)

@@ -1,5 +1,6 @@
 -- Every call and every tick keeps the half `Sound` of rule 4; a new farm has it.
 -- Assumes nothing.
+use Rattle.std.proofs.Common.{Option, Some, None}
 use Prim.Native.Nat.{ℕ, zero, suc, ◌<◌, min}
 use mathlib.Core.Path.{◌≡◌, refl, sym, ap, subst, ◌∙◌}
 use mathlib.Core.Bool.{Bool, true, false, false≢true}
@@ -9,8 +10,6 @@ use lib.Dec.{eqb, leb}
 use lib.ListN.{get_or, set, take, length, length-take, length-map, length-replicate, replicate}
 use borrow.Author.Tests.{eqb-true, ne_eqb}
 use lib.Seq.{get_or-take}
-use Rattle.octets.specs.declared.Found.{Found}
-use Rattle.octets.specs.declared.Found.TheVariants.{At, Nothing}
 use Rattle.octets.specs.Choice.{one}
 use Rattle.octets.specs.Search.{first_at, count_if}
 use Rattle.kinds.specs.declared.RowState.{RowState}
@@ -223,9 +222,9 @@ controller_sound {own} h from to user s =
     (λ _. unless_case (KeepsSound own) (leb (length user) most_user) _ _ (λ _. tt)
     (λ _. unless_case (KeepsSound own) (is_target (own.target from)) _ _ (λ _. tt) (λ _. by (first_at (active_as to) 0 h.farm.rows))))
   where
-    by : (d : Found) → KeepsSound own (to_tester own h from to user d)
-    by Nothing = tt
-    by (At seat) = s
+    by : (d : Option ℕ) → KeepsSound own (to_tester own h from to user d)
+    by None = tt
+    by (Some seat) = s
 
 bytes-by_sound : {own : FarmSheet} (h : Held) (seat : ℕ) (input : List ℕ) (x : RowState) → (row_at h.farm.rows seat).state ≡ x → Sound own h.farm
     → KeepsSound own (bytes_by own h seat input x)

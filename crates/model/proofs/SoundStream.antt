@@ -1,5 +1,6 @@
 -- The places of a row's byte stream stay possible, whatever bytes come.
 -- Assumes nothing.
+use Rattle.std.proofs.Common.{Result, Ok, Err}
 use Prim.Native.Nat.{ℕ, ◌+◌, ◌≤◌, ◌<◌}
 use mathlib.Core.Path.{◌≡◌, refl, sym, ap, ◌∙◌}
 use mathlib.Core.Bool.{Bool, true, false, not, true≢false}
@@ -14,8 +15,6 @@ use Rattle.octets.specs.Search.{some, all}
 use Rattle.octets.proofs.ChoiceLaws.{both_left, both_right}
 use Rattle.kinds.specs.declared.Fault.{Fault}
 use Rattle.kinds.specs.declared.Fault.TheVariants.{Pattern, UnknownType, TooLong, WrongLength}
-use Rattle.kinds.specs.declared.Verdict.{Verdict}
-use Rattle.kinds.specs.declared.Verdict.TheVariants.{Passes, Wrong}
 use Rattle.kinds.specs.declared.Place.{Place}
 use Rattle.kinds.specs.declared.Place.TheVariants.{Header, Reading, Skipping}
 use Rattle.wire.specs.declared.header.Header.{Header as Head}
@@ -50,22 +49,22 @@ unfolding length_fits types all
 never_empty kind = none_of (is_of_length tcp kind 0) fills (fills_not kind) types refl
 
 -- so a header that passes announces a byte at least
-pub passes-some : (h : Head) → verdict_of h ≡ Passes → 0 < h.length
+pub passes-some : (h : Head) → verdict_of h ≡ Ok tt → 0 < h.length
 unfolding verdict_of
 passes-some h e =
     split (eqb h.length 0)
     (λ z. absurd (never e z))
     (λ z. omega (arith, eqb-false h.length 0 z))
   where
-    wrong-not : (fault : Fault) → Wrong fault ≡ Passes → ⊥
+    wrong-not : (fault : Fault) → Err fault ≡ Ok tt → ⊥
     wrong-not fault q = let z : ◌≡◌ {A = ℕ} 0 1 = cc in omega arith
 
-    never : verdict_of h ≡ Passes → eqb h.length 0 ≡ true → ⊥
+    never : verdict_of h ≡ Ok tt → eqb h.length 0 ≡ true → ⊥
     never q z =
-        unless_case (λ v. v ≡ Passes → ⊥) (right_pattern h.version h.inverse) _ _ (λ _. wrong-not Pattern)
-        (λ _. unless_case (λ v. v ≡ Passes → ⊥) (known_on tcp h.kind) _ _ (λ _. wrong-not UnknownType)
-        (λ _. unless_case (λ v. v ≡ Passes → ⊥) (leb h.length most_payload) _ _ (λ _. wrong-not TooLong)
-        (λ _. unless_case (λ v. v ≡ Passes → ⊥) (length_fits tcp h.kind h.length) _ _ (λ _. wrong-not WrongLength)
+        unless_case (λ v. v ≡ Ok tt → ⊥) (right_pattern h.version h.inverse) _ _ (λ _. wrong-not Pattern)
+        (λ _. unless_case (λ v. v ≡ Ok tt → ⊥) (known_on tcp h.kind) _ _ (λ _. wrong-not UnknownType)
+        (λ _. unless_case (λ v. v ≡ Ok tt → ⊥) (leb h.length most_payload) _ _ (λ _. wrong-not TooLong)
+        (λ _. unless_case (λ v. v ≡ Ok tt → ⊥) (length_fits tcp h.kind h.length) _ _ (λ _. wrong-not WrongLength)
         (λ t _. true≢false (sym t ∙ ap (length_fits tcp h.kind) (eqb-true h.length 0 z) ∙ never_empty h.kind)))))
         q
 
@@ -78,22 +77,22 @@ abbrev FedWell : Fed → Type 0
 FedWell (more s) = PossibleIn s
 FedWell (ends e s) = PossibleIn s
 
-after-wrong : (fault : Fault) (head room : List ℕ) → verdict_of (header_at head 0) ≡ Wrong fault → PossibleIn (after_wrong fault head room)
+after-wrong : (fault : Fault) (head room : List ℕ) → verdict_of (header_at head 0) ≡ Err fault → PossibleIn (after_wrong fault head room)
 after-wrong fault head room e =
     pick_case PossibleIn (closes fault) _ _ (λ _. omega arith)
     (λ c. pick_case PossibleIn (eqb (header_at head 0).length 0) _ _ (λ _. omega arith)
     (λ z. (omega (arith, eqb-false (header_at head 0).length 0 z), by fault c e)))
   where
-    by : (x : Fault) → closes x ≡ false → verdict_of (header_at head 0) ≡ Wrong x
-        → (verdict_of (header_at head 0) ≡ Wrong UnknownType) ⊎ (verdict_of (header_at head 0) ≡ Wrong TooLong)
+    by : (x : Fault) → closes x ≡ false → verdict_of (header_at head 0) ≡ Err x
+        → (verdict_of (header_at head 0) ≡ Err UnknownType) ⊎ (verdict_of (header_at head 0) ≡ Err TooLong)
     by Pattern c e = absurd (true≢false c)
     by UnknownType c e = inl e
     by TooLong c e = inr e
     by WrongLength c e = absurd (true≢false c)
 
-judged_well : (v : Verdict) (head room : List ℕ) → verdict_of (header_at head 0) ≡ v → FedWell (judged v head room)
-judged_well Passes head room e = (passes-some (header_at head 0) e, e)
-judged_well (Wrong fault) head room e = after-wrong fault head room e
+judged_well : (v : Result Unit Fault) (head room : List ℕ) → verdict_of (header_at head 0) ≡ v → FedWell (judged v head room)
+judged_well (Ok tt) head room e = (passes-some (header_at head 0) e, e)
+judged_well (Err fault) head room e = after-wrong fault head room e
 
 feed_well : (p : Place) (head room : List ℕ) (byte : ℕ) → PossibleAt p head → FedWell (feed_at p head room byte)
 feed_well (Header n) head room byte k =

@@ -1,13 +1,12 @@
 -- Every call keeps every row tidy (and so does a tick).
 -- Assumes nothing.
+use Rattle.std.proofs.Common.{Option, Some, None}
 use Prim.Native.Nat.{ℕ}
 use mathlib.Core.Path.{◌≡◌, refl, ap}
 use mathlib.Core.Bool.{Bool, true, false}
 use mathlib.Core.List.{List, [], ◌∷◌}
 use lib.Dec.{eqb, leb}
 use lib.ListN.{length, take, get_or}
-use Rattle.octets.specs.declared.Found.{Found}
-use Rattle.octets.specs.declared.Found.TheVariants.{At, Nothing}
 use Rattle.octets.specs.Choice.{pick, unless}
 use Rattle.octets.specs.Search.{first_at}
 use Rattle.kinds.specs.declared.Request.{Request}
@@ -184,9 +183,9 @@ module _ (own : FarmSheet) where
   unfolding move connects peer_gone link_gone datagram_move controller_move
   tidy-move h connect t = by (first_at is_free 0 (take own.rows h.farm.rows))
     where
-      by : (x : Found) → TidyMove (connected_at own h x)
-      by Nothing = tt
-      by (At seat) = tidy-set h.farm.rows seat _ t (tidy-between (Fresh _))
+      by : (x : Option ℕ) → TidyMove (connected_at own h x)
+      by None = tt
+      by (Some seat) = tidy-set h.farm.rows seat _ t (tidy-between (Fresh _))
   tidy-move h (bytes seat input) t = by (row_at h.farm.rows seat).state refl
     where
       by : (s : RowState) → (row_at h.farm.rows seat).state ≡ s → TidyMove (bytes_by own h seat input s)
@@ -208,13 +207,13 @@ module _ (own : FarmSheet) where
   tidy-move h (controller from to user) t =
       by (leb 1 (length user)) (leb (length user) most_user) (is_target (own.target from)) (first_at (active_as to) 0 h.farm.rows)
     where
-      by : (a b c : Bool) (x : Found)
+      by : (a b c : Bool) (x : Option ℕ)
           → TidyMove (unless a (refused 9) (unless b (refused 9) (unless c (refused 10) (to_tester own h from to user x))))
       by false b c x = tt
       by true false c x = tt
       by true true false x = tt
-      by true true true Nothing = tt
-      by true true true (At seat) = t
+      by true true true None = tt
+      by true true true (Some seat) = t
 
 -- a new farm is tidy
 pub tidy_new : TidyFarm new_farm

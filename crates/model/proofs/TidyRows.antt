@@ -1,5 +1,6 @@
 -- Rows stay tidy: what means nothing keeps its one value.
 -- Assumes nothing.
+use Rattle.std.proofs.Common.{Result, Ok, Err}
 use Prim.Native.Nat.{ℕ, zero, suc, ◌+◌, ◌-◌, ◌<◌}
 use mathlib.Core.Path.{◌≡◌, refl, sym, ap, ◌∙◌}
 use mathlib.Core.Bool.{Bool, true, false, false≢true}
@@ -16,8 +17,6 @@ use Rattle.kinds.specs.declared.Place.{Place}
 use Rattle.kinds.specs.declared.Place.TheVariants.{Header, Reading, Skipping}
 use Rattle.kinds.specs.declared.Row.{Row}
 use Rattle.kinds.specs.declared.Fault.{Fault}
-use Rattle.kinds.specs.declared.Verdict.{Verdict}
-use Rattle.kinds.specs.declared.Verdict.TheVariants.{Passes, Wrong}
 use Rattle.wire.specs.Header.{header_size, header_at, verdict_of, closes}
 use Rattle.model.specs.Row.{no_head, row_of, free_row, row_at, is_free_state, is_free, older_state, older, heard_state}
 use Rattle.model.specs.Bytes.{heard_row}
@@ -74,9 +73,9 @@ tidy-wrong fault head room h = by (closes fault) (eqb (header_at head 0).length 
     by false true = tidy-rested room
     by false false = record { eight = h; unused = tt }
 
-tidy-judged : (v : Verdict) (head room : List ℕ) → length head ≡ header_size → TidyStream (stream_in (judged v head room))
-tidy-judged Passes head room h = record { eight = h; unused = tt }
-tidy-judged (Wrong fault) head room h = tidy-wrong fault head room h
+tidy-judged : (v : Result Unit Fault) (head room : List ℕ) → length head ≡ header_size → TidyStream (stream_in (judged v head room))
+tidy-judged (Ok tt) head room h = record { eight = h; unused = tt }
+tidy-judged (Err fault) head room h = tidy-wrong fault head room h
 
 module _ (b : ℕ) where
   tidy_header : (n : ℕ) (head room : List ℕ) → length head ≡ header_size → TidyAt (Header n) head → TidyStream (stream_in (header_byte n (set head n b) room))

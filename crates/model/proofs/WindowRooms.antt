@@ -1,5 +1,6 @@
 -- A farm alone, over two assembling buffers of one shape: it has the same, whatever stood in them.
 -- Assumes nothing.
+use Rattle.std.proofs.Common.{Option, Some, None}
 use Prim.Native.Nat.{ℕ, ◌≤◌, ◌<◌}
 use mathlib.Core.Path.{◌≡◌, refl, sym, ap, ap₂, subst, ◌∙◌}
 use mathlib.Core.Bool.{Bool, true, false}
@@ -10,8 +11,6 @@ use lib.Dec.{eqb, leb, ltb}
 use lib.ListN.{length, get_or, set, take, length-set, get_or-eq_default}
 use lib.Seq.{get_or-set_same, get_or-set_other}
 use borrow.Author.Tests.{ltb-true, ltb-false}
-use Rattle.octets.specs.declared.Found.{Found}
-use Rattle.octets.specs.declared.Found.TheVariants.{At, Nothing}
 use Rattle.octets.specs.Choice.{pick, unless}
 use Rattle.octets.specs.Search.{first_at}
 use Rattle.kinds.specs.declared.Place.{Place}
@@ -122,9 +121,9 @@ module _ (own : FarmSheet) (f : Farm) (a b : List (List ℕ)) (k : RoomsAgree f 
   stays : AgreeFor a b f
   stays = k.each
 
-  connect_alike : (x : Found) → Alike (connected_at own (over f a) x) (connected_at own (over f b) x)
-  connect_alike Nothing = refl
-  connect_alike (At seat) =
+  connect_alike : (x : Option ℕ) → Alike (connected_at own (over f a) x) (connected_at own (over f b) x)
+  connect_alike None = refl
+  connect_alike (Some seat) =
       record {
         row = refl;
         took = refl;
@@ -134,10 +133,10 @@ module _ (own : FarmSheet) (f : Farm) (a b : List (List ℕ)) (k : RoomsAgree f 
         rooms = record { count = k.count; each = agree_put a b f seat (Fresh (clock_of 0)) stays };
       }
 
-  tester_alike : (from to : ℕ) (user : List ℕ) (x : Found)
+  tester_alike : (from to : ℕ) (user : List ℕ) (x : Option ℕ)
       → Alike (to_tester own (over f a) from to user x) (to_tester own (over f b) from to user x)
-  tester_alike from to user Nothing = refl
-  tester_alike from to user (At seat) = record { row = refl; took = refl; items = refl; long = refl; farm = refl; rooms = k }
+  tester_alike from to user None = refl
+  tester_alike from to user (Some seat) = record { row = refl; took = refl; items = refl; long = refl; farm = refl; rooms = k }
 
   -- the same test refuses on both sides
   unless_alike : (t : Bool) (n : ℕ) (x y : Move) → Alike x y → Alike (unless t (refused n) x) (unless t (refused n) y)

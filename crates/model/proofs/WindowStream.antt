@@ -1,6 +1,7 @@
 -- What stands in a room before a message is read never matters: two streams that differ only in what stands in the room beyond the bytes stored of the
 -- message in hand take the same bytes, end with the same event and store the same payload.
 -- Assumes nothing.
+use Rattle.std.proofs.Common.{Result, Ok, Err}
 use Prim.Native.Nat.{ℕ, zero, suc, ◌+◌, ◌≤◌}
 use mathlib.Core.Path.{◌≡◌, refl, sym, ap, ◌∙◌}
 use mathlib.Core.Bool.{Bool, true, false}
@@ -13,8 +14,6 @@ use lib.Seq.{take-take}
 use borrow.Author.Tests.{ltb-false}
 use Rattle.octets.specs.Choice.{pick, either}
 use Rattle.kinds.specs.declared.Fault.{Fault}
-use Rattle.kinds.specs.declared.Verdict.{Verdict}
-use Rattle.kinds.specs.declared.Verdict.TheVariants.{Passes, Wrong}
 use Rattle.kinds.specs.declared.Place.{Place}
 use Rattle.kinds.specs.declared.Place.TheVariants.{Header, Reading, Skipping}
 use Rattle.wire.specs.Header.{header_size, header_at, verdict_of, closes}
@@ -95,9 +94,9 @@ module _ (Q : Fed → Fed → Type 0)
       (λ _. stop (wrong fault) boundary no_head m k (agree_none e) refl)
       (λ _. stop (wrong fault) (Skipping 0) head m k (agree_none e) refl))
 
-  judged_alike : (v : Verdict) (head m k : List ℕ) → length m ≡ length k → Q (judged v head m) (judged v head k)
-  judged_alike Passes head m k e = on (Reading 0) head m k (agree_start (is_stored (header_at head 0).kind) e)
-  judged_alike (Wrong fault) head m k e = wrong_alike fault head m k e
+  judged_alike : (v : Result Unit Fault) (head m k : List ℕ) → length m ≡ length k → Q (judged v head m) (judged v head k)
+  judged_alike (Ok tt) head m k e = on (Reading 0) head m k (agree_start (is_stored (header_at head 0).kind) e)
+  judged_alike (Err fault) head m k e = wrong_alike fault head m k e
 
   feed_alike : (p : Place) (head m k : List ℕ) (byte : ℕ) → Agree (stored_at p head) m k → Q (feed_at p head m byte) (feed_at p head k byte)
   feed_alike (Header n) head m k byte a =

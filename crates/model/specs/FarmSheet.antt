@@ -1,9 +1,8 @@
 -- What one farm has of the farm sheet: all that its rules ever look at.
 -- Assumes nothing: these are definitions.
-use Rattle.std.specs.Prelude.{ℕ, Bool, false, List, [], eqb, ltb}
+use Rattle.std.specs.Prelude.{ℕ, Bool, false, List, [], eqb, ltb, Option, Some, None}
+use Rattle.sheet.specs.declared.find.Known.{Known}
 use Rattle.octets.specs.Choice.{pick}
-use Rattle.sheet.specs.declared.find.Found.{Found}
-use Rattle.sheet.specs.declared.find.Found.TheVariants.{Is, Nobody}
 use Rattle.sheet.specs.Sheet.{farm_count, entity_of, quota_of, farm_record, testers_of, targets_of}
 use Rattle.sheet.specs.Find.{lookup}
 use Rattle.sheet.specs.Rows.{rows_owned, first_row}
@@ -25,14 +24,14 @@ pub record FarmSheet : Type 0 where
   pub names : List ℕ
 
 -- "not a tester of this farm"
-abbrev pub tester_by : ℕ → Found → Bool
-tester_by f (Is k) = eqb k.farm.0 f
-tester_by f Nobody = false
+abbrev pub tester_by : ℕ → Option Known → Bool
+tester_by f (Some k) = eqb k.farm.0 f
+tester_by f None = false
 
 -- "Target, 4 bytes: address u16, farm u8, reachable 0 or 1."
-abbrev pub target_by : ℕ → Found → TargetIs
-target_by f (Is k) = pick (eqb k.farm.0 f) (pick (eqb k.flag 1) reachable unreachable) stranger
-target_by f Nobody = stranger
+abbrev pub target_by : ℕ → Option Known → TargetIs
+target_by f (Some k) = pick (eqb k.farm.0 f) (pick (eqb k.flag 1) reachable unreachable) stranger
+target_by f None = stranger
 
 -- what farm f has of the sheet s
 unfoldable pub farm_sheet : List ℕ → ℕ → FarmSheet

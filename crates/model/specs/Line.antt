@@ -1,8 +1,6 @@
 -- "Activation (001, 12.5 and 12.6)": what a request gets, and how a farm's line is settled.
 -- Assumes nothing: these are definitions.
-use Rattle.std.specs.Prelude.{ℕ, Bool, true, false, List, [], ◌∷◌, ◌++◌, eqb, leb, get_or, set}
-use Rattle.octets.specs.declared.Found.{Found}
-use Rattle.octets.specs.declared.Found.TheVariants.{At, Nothing}
+use Rattle.std.specs.Prelude.{ℕ, Bool, true, false, List, [], ◌∷◌, ◌++◌, eqb, leb, get_or, set, Option, Some, None}
 use Rattle.octets.specs.Choice.{pick, both, unless}
 use Rattle.octets.specs.Search.{first_at, count_if}
 use Rattle.octets.specs.Fold.{up_to}
@@ -32,9 +30,9 @@ accepted = 0x10
 abbrev pub by_places : FarmSheet → List Row → Decision
 by_places own rows = pick (leb own.quota (count_if is_active rows)) (Ask All) (Now accepted)
 
-abbrev pub by_holder : FarmSheet → List Row → Found → Decision
-by_holder own rows (At seat) = Ask (One seat)
-by_holder own rows Nothing = by_places own rows
+abbrev pub by_holder : FarmSheet → List Row → Option ℕ → Decision
+by_holder own rows (Some seat) = Ask (One seat)
+by_holder own rows None = by_places own rows
 
 -- "address active on another row of the farm: a check of that row." The rules for a row that is not active
 unfoldable pub socket_rules : FarmSheet → List Row → ℕ → Decision

@@ -3,15 +3,14 @@
 -- itself." They are read off a day's notes, the calls and their answers, by the header rules alone: only `notes_of` runs the model, to
 -- have the answers, and nothing below it knows a table, a place in a stream or a move.
 -- Assumes nothing: these are definitions.
-use Rattle.std.specs.Prelude.{ℕ, zero, suc, ◌+◌, ◌-◌, ◌≡◌, Bool, true, false, List, [], ◌∷◌, ◌++◌, eqb, leb, ltb, length, take, drop}
+use Rattle.std.specs.Prelude.{ℕ, zero, suc, ◌+◌, ◌-◌, ◌≡◌, Bool, true, false, List, [], ◌∷◌, ◌++◌, eqb, leb, ltb, length, take, drop, Result, Ok, Err}
+use Rattle.kinds.specs.declared.Fault.{Fault}
 use Rattle.octets.specs.Choice.{pick, both, unless}
 use Rattle.kinds.specs.declared.Item.{Item}
 use Rattle.kinds.specs.declared.Reply.{Reply}
 use Rattle.kinds.specs.declared.Reply.TheVariants.{Nack, Identity, Activation, AliveCheck, Status, PowerMode, Message, Ack, DiagnosticNack, Close, HandOn}
 use Rattle.kinds.specs.declared.Meters.{Meters}
 use Rattle.kinds.specs.declared.Row.{Row}
-use Rattle.kinds.specs.declared.Verdict.{Verdict}
-use Rattle.kinds.specs.declared.Verdict.TheVariants.{Passes, Wrong}
 use Rattle.wire.specs.Header.{header_size, header_at, verdict_of, closes}
 use Rattle.model.specs.FarmSheet.{FarmSheet}
 use Rattle.model.specs.Row.{in_hand}
@@ -42,9 +41,9 @@ notes_of s t (m ∷ ms) = record { call = m.call; said = said_by (step_of s t m)
 -- ---- the bytes of one connection, cut into messages by the header rules alone
 
 -- the header is one that closes the row
-abbrev pub stops : Verdict → Bool
-stops Passes = false
-stops (Wrong fault) = closes fault
+abbrev pub stops : Result Unit Fault → Bool
+stops (Ok tt) = false
+stops (Err fault) = closes fault
 
 -- what the first message of the bytes comes to, by the length that its header announces
 abbrev pub whole_size : List ℕ → ℕ

@@ -1,15 +1,12 @@
 -- The calls of one farm.
 -- Assumes nothing: these are definitions.
-use Rattle.std.specs.Prelude.{ℕ, ◌+◌, Bool, true, false, List, [], ◌∷◌, map, leb, length, get_or, set, take}
-use Rattle.octets.specs.declared.Found.{Found}
-use Rattle.octets.specs.declared.Found.TheVariants.{At, Nothing}
+use Rattle.std.specs.Prelude.{ℕ, ◌+◌, Bool, true, false, List, [], ◌∷◌, map, leb, length, get_or, set, take, Option, Some, None}
+use Rattle.kinds.specs.declared.Reply.{Reply}
 use Rattle.octets.specs.Choice.{pick, unless}
 use Rattle.octets.specs.Search.{first_at, count_if}
 use Rattle.kinds.specs.declared.RowState.{RowState}
 use Rattle.kinds.specs.declared.RowState.TheVariants.{Free, Fresh, Waiting, Active}
 use Rattle.kinds.specs.declared.Item.{Item}
-use Rattle.kinds.specs.declared.Answer.{Answer}
-use Rattle.kinds.specs.declared.Answer.TheVariants.{Nothing as NoAnswer, With}
 use Rattle.kinds.specs.declared.Reply.TheVariants.{Message}
 use Rattle.wire.specs.Header.{our_version}
 use Rattle.datagram.specs.Datagram.{answer_to}
@@ -60,9 +57,9 @@ moves h d = gave (record { row = no_row; took = 0; items = d.items; long = []; h
 
 -- ---- connect: "Connect opens the lowest free row of the farm"; "8 | connect, and the farm has no free row"
 
-abbrev pub connected_at : FarmSheet → Held → Found → Move
-connected_at own h Nothing = refused 8
-connected_at own h (At seat) =
+abbrev pub connected_at : FarmSheet → Held → Option ℕ → Move
+connected_at own h None = refused 8
+connected_at own h (Some seat) =
     gave
     (record {
       row = own.first + seat;
@@ -124,9 +121,9 @@ abbrev pub open_rows : Farm → ℕ
 open_rows f = count_if is_open f.rows
 
 -- "A datagram's reply has row 255."
-abbrev pub answers : Answer → List Item
-answers NoAnswer = []
-answers (With reply) = record { row = record { 0 = no_row }; version = our_version; reply = reply } ∷ []
+abbrev pub answers : Option Reply → List Item
+answers None = []
+answers (Some reply) = record { row = record { 0 = no_row }; version = our_version; reply = reply } ∷ []
 
 unfoldable pub datagram_move : FarmSheet → Held → List ℕ → Move
 datagram_move own h input =
@@ -150,9 +147,9 @@ is_target stranger = false
 is_target unreachable = true
 is_target reachable = true
 
-abbrev pub to_tester : FarmSheet → Held → ℕ → ℕ → List ℕ → Found → Move
-to_tester own h from to user Nothing = refused 10
-to_tester own h from to user (At seat) =
+abbrev pub to_tester : FarmSheet → Held → ℕ → ℕ → List ℕ → Option ℕ → Move
+to_tester own h from to user None = refused 10
+to_tester own h from to user (Some seat) =
     gave (record { row = no_row; took = 0; items = says own seat (Message from to) ∷ []; long = user; held = h })
 
 unfoldable pub controller_move : FarmSheet → Held → ℕ → ℕ → List ℕ → Move

@@ -1,6 +1,6 @@
 -- "A table breaks the rules if: ..": rule 4 for one farm, a field for each rule.
 -- Assumes nothing: these are definitions.
-use Rattle.std.specs.Prelude.{ℕ, ◌-◌, ◌≤◌, ◌<◌, ◌≡◌, true, false, ◌⊎◌, List, [], ◌∷◌, eqb, length, drop, replicate}
+use Rattle.std.specs.Prelude.{ℕ, ◌-◌, ◌≤◌, ◌<◌, ◌≡◌, true, false, ◌⊎◌, List, [], ◌∷◌, eqb, length, drop, replicate, Ok, Err}
 use Prim.{Unit}
 use Rattle.octets.specs.Choice.{one}
 use Rattle.octets.specs.Search.{count_if}
@@ -10,7 +10,6 @@ use Rattle.kinds.specs.declared.Place.{Place}
 use Rattle.kinds.specs.declared.Place.TheVariants.{Header, Reading, Skipping}
 use Rattle.kinds.specs.declared.Row.{Row}
 use Rattle.kinds.specs.declared.Fault.TheVariants.{UnknownType, TooLong}
-use Rattle.kinds.specs.declared.Verdict.TheVariants.{Passes, Wrong}
 use Rattle.kinds.specs.declared.HeadVerdict.TheVariants.{Pending}
 use Rattle.wire.specs.Header.{header_size, header_at, verdict_of}
 use Rattle.model.specs.FarmSheet.{FarmSheet}
@@ -27,10 +26,10 @@ times i line = count_if (eqb i) line
 -- header would be judged wrong, or one being skipped whose header would not get NACK 01 or 02"
 abbrev pub PossibleAt : Place → List ℕ → Type 0
 PossibleAt (Header n) head = n < header_size
-PossibleAt (Reading n) head = (n < (header_at head 0).length) × (verdict_of (header_at head 0) ≡ Passes)
+PossibleAt (Reading n) head = (n < (header_at head 0).length) × (verdict_of (header_at head 0) ≡ Ok tt)
 PossibleAt (Skipping n) head =
     (n < (header_at head 0).length) ×
-    ((verdict_of (header_at head 0) ≡ Wrong UnknownType) ⊎ (verdict_of (header_at head 0) ≡ Wrong TooLong))
+    ((verdict_of (header_at head 0) ≡ Err UnknownType) ⊎ (verdict_of (header_at head 0) ≡ Err TooLong))
 
 -- what means nothing has one value: header bytes that are not in hand are 0, and a free row is between two messages
 abbrev pub TidyAt : Place → List ℕ → Type 0

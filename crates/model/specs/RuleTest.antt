@@ -1,13 +1,11 @@
 -- Rule 4 as a test: it says the same as the record (proofs/RuleTestLaws).
 -- Assumes nothing: these are definitions.
-use Rattle.std.specs.Prelude.{ℕ, ◌-◌, Bool, true, false, not, List, [], ◌∷◌, eqb, leb, ltb, length, drop, replicate}
+use Rattle.std.specs.Prelude.{ℕ, ◌-◌, Bool, true, false, not, List, [], ◌∷◌, eqb, leb, ltb, length, drop, replicate, Result, Ok, Err}
 use Rattle.octets.specs.Choice.{both, either, one}
 use Rattle.octets.specs.Fold.{up_to}
 use Rattle.octets.specs.Search.{count_if, all, same_list}
 use Rattle.kinds.specs.declared.Fault.{Fault}
 use Rattle.kinds.specs.declared.Fault.TheVariants.{Pattern, UnknownType, TooLong, WrongLength}
-use Rattle.kinds.specs.declared.Verdict.{Verdict}
-use Rattle.kinds.specs.declared.Verdict.TheVariants.{Passes, Wrong}
 use Rattle.kinds.specs.declared.RowState.{RowState}
 use Rattle.kinds.specs.declared.RowState.TheVariants.{Free, Fresh, Waiting, Active}
 use Rattle.kinds.specs.declared.Place.{Place}
@@ -27,9 +25,9 @@ use Rattle.model.specs.Rule.{times}
 unfoldable pub every_seat : (ℕ → Bool) → Bool
 every_seat p = up_to (λ i ok. both ok (p i)) true seat_count
 
-abbrev pub passes : Verdict → Bool
-passes Passes = true
-passes (Wrong fault) = false
+abbrev pub passes : Result Unit Fault → Bool
+passes (Ok tt) = true
+passes (Err fault) = false
 
 abbrev pub is_skip_fault : Fault → Bool
 is_skip_fault Pattern = false
@@ -37,9 +35,9 @@ is_skip_fault UnknownType = true
 is_skip_fault TooLong = true
 is_skip_fault WrongLength = false
 
-abbrev pub is_skipped : Verdict → Bool
-is_skipped Passes = false
-is_skipped (Wrong fault) = is_skip_fault fault
+abbrev pub is_skipped : Result Unit Fault → Bool
+is_skipped (Ok tt) = false
+is_skipped (Err fault) = is_skip_fault fault
 
 abbrev pub possible_at : Place → List ℕ → Bool
 possible_at (Header n) head = ltb n header_size

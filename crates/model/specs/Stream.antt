@@ -1,10 +1,8 @@
 -- "The byte stream as a machine": one row's bytes, one at a time.
 -- Assumes nothing: these are definitions.
-use Rattle.std.specs.Prelude.{ℕ, suc, ◌+◌, Bool, List, [], ◌∷◌, eqb, ltb, set}
+use Rattle.std.specs.Prelude.{ℕ, suc, ◌+◌, Bool, List, [], ◌∷◌, eqb, ltb, set, Result, Ok, Err}
 use Rattle.octets.specs.Choice.{pick, either}
 use Rattle.kinds.specs.declared.Fault.{Fault}
-use Rattle.kinds.specs.declared.Verdict.{Verdict}
-use Rattle.kinds.specs.declared.Verdict.TheVariants.{Passes, Wrong}
 use Rattle.kinds.specs.declared.Place.{Place}
 use Rattle.kinds.specs.declared.Place.TheVariants.{Header, Reading, Skipping}
 use Rattle.wire.specs.declared.header.Header.{Header as Head}
@@ -50,9 +48,9 @@ after_wrong fault head room =
     pick (closes fault) (rested room)
     (pick (eqb (header_at head 0).length 0) (rested room) (stream_of (Skipping 0) head room))
 
-abbrev pub judged : Verdict → List ℕ → List ℕ → Fed
-judged Passes head room = more (stream_of (Reading 0) head room)
-judged (Wrong fault) head room = ends (wrong fault) (after_wrong fault head room)
+abbrev pub judged : Result Unit Fault → List ℕ → List ℕ → Fed
+judged (Ok tt) head room = more (stream_of (Reading 0) head room)
+judged (Err fault) head room = ends (wrong fault) (after_wrong fault head room)
 
 -- a header byte: "Judged when all eight are in"
 abbrev pub header_byte : ℕ → List ℕ → List ℕ → Fed

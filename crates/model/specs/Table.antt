@@ -1,10 +1,9 @@
 -- The table of all farms, and one call on it.
 -- Assumes nothing: these are definitions.
-use Rattle.std.specs.Prelude.{ℕ, suc, Bool, true, List, [], ◌∷◌, ◌++◌, map, eqb, leb, ltb, get_or, set}
+use Rattle.std.specs.Prelude.{ℕ, suc, Bool, true, List, [], ◌∷◌, ◌++◌, map, eqb, leb, ltb, get_or, set, Option, Some, None}
+use Rattle.kinds.specs.declared.FarmNo.{FarmNo}
 use Rattle.octets.specs.Choice.{pick, both, unless}
 use Rattle.kinds.specs.declared.Item.{Item}
-use Rattle.sheet.specs.declared.rows.Owner.{Owner}
-use Rattle.sheet.specs.declared.rows.Owner.TheVariants.{Seat, Nobody}
 use Rattle.sheet.specs.Sheet.{farm_count}
 use Rattle.sheet.specs.Rows.{owner_of}
 use Rattle.sheet.specs.Test.{good_sheet}
@@ -68,9 +67,9 @@ abbrev pub of_farm : List ℕ → ℕ → Own → Whose
 of_farm s f c = pick (ltb f (farm_count s)) (farms f c) (nobodys 5)
 
 -- "6 | row not open"; a row that is nobody's is not open
-abbrev pub of_owner : Owner → (ℕ → Own) → Whose
-of_owner (Seat f seat) c = farms f.0 (c seat)
-of_owner Nobody c = nobodys 6
+abbrev pub of_owner : Option (FarmNo × ℕ) → (ℕ → Own) → Whose
+of_owner (Some (f, seat)) c = farms f.0 (c seat)
+of_owner None c = nobodys 6
 
 unfoldable pub whose : List ℕ → Call → Whose
 whose s (connect_to f) = of_farm s f connect

@@ -1,6 +1,6 @@
 -- The words of demand 3's bound: a request that must wait, its place in the line, accepted ticks, cuts, answers.
 -- Assumes nothing: these are definitions.
-use Rattle.std.specs.Prelude.{ℕ, zero, suc, ◌+◌, ◌≤◌, ◌<◌, ◌≡◌, Bool, true, false, eqb, get_or, take}
+use Rattle.std.specs.Prelude.{ℕ, zero, suc, ◌+◌, ◌≤◌, ◌<◌, ◌≡◌, Bool, true, false, eqb, get_or, take, Some}
 use mathlib.Core.List.{List, [], ◌∷◌, ◌++◌, Memᴰ}
 use Rattle.octets.specs.Choice.{both, either, one}
 use Rattle.kinds.specs.declared.Item.{Item}
@@ -11,7 +11,6 @@ use Rattle.kinds.specs.declared.Decision.TheVariants.{Now, Ask}
 use Rattle.kinds.specs.declared.HeadVerdict.TheVariants.{Pending}
 use Rattle.wire.specs.Header.{our_version}
 use Rattle.payload.specs.Payload.{request_in}
-use Rattle.sheet.specs.declared.rows.Owner.TheVariants.{Seat}
 use Rattle.sheet.specs.Sheet.{farm_count, farm_no}
 use Rattle.sheet.specs.Rows.{owner_of}
 use Rattle.model.specs.FarmSheet.{FarmSheet, slot_sheet}
@@ -56,7 +55,7 @@ pub record MustWait (s : List ℕ) (t : Table) (m : Made) (row farm seat : ℕ) 
   pub check : Check
   pub bytes_of : m.call ≡ bytes_from row input
   pub done : is_done s t m ≡ true
-  pub owner : owner_of s row ≡ Seat (farm_no farm) seat
+  pub owner : owner_of s row ≡ Some (farm_no farm, seat)
   pub whole : (taken_of (slot t farm) seat input).event ≡ finished 0x0005 size
   pub reads : request_in (take size (taken_of (slot t farm) seat input).stream.room) ≡ q
   pub waits : decide (slot_sheet s farm) (slot t farm).farm.rows seat q ≡ Ask check
@@ -68,7 +67,7 @@ pub record ReadableWaits (s : List ℕ) (t : Table) (m : Made) (row farm seat : 
   pub check : Check
   pub bytes_of : m.call ≡ bytes_from row input
   pub done : is_done s t m ≡ true
-  pub owner : owner_of s row ≡ Seat (farm_no farm) seat
+  pub owner : owner_of s row ≡ Some (farm_no farm, seat)
   pub readable : WholeOf 0x0005 (bytes_at (slot t farm) seat input)
   pub reads : request_in (payload_of (bytes_at (slot t farm) seat input)) ≡ q
   pub waits : decide (slot_sheet s farm) (slot t farm).farm.rows seat q ≡ Ask check

@@ -1,5 +1,6 @@
 -- Laws for a loop that asks a question of a list from its front on: what is left of the list decides.
 -- Assumes nothing.
+use Rattle.std.proofs.Common.{Some, None}
 use mathlib.Core.Path.{◌≡◌, refl, sym, ap, ◌∙◌}
 use mathlib.Core.Bool.{Bool, true, false}
 use mathlib.Core.List.{List, [], ◌∷◌}
@@ -11,7 +12,6 @@ use lib.ListN.{length, get_or, drop, drop_of_length-le}
 use lib.Seq.{drop-cons}
 use lib.Dec.{eqb}
 use borrow.Author.Tests.{eq-eqb, ne_eqb, eqb-true}
-use Rattle.octets.specs.declared.Found.TheVariants.{At, Nothing}
 use Rattle.octets.specs.Says.{Says}
 use Rattle.octets.specs.Search.{first_at, count_if, some, all, same_list}
 use Rattle.octets.proofs.ChoiceLaws.{both_left, both_right}
@@ -26,7 +26,7 @@ module _ {A : Type 0} where
 
   -- the place i is looked at next
   module _ (p : A → Bool) (l : List A) (i : ℕ) (d : A) (h : i < length l) where
-    pub first-here : p (get_or l i d) ≡ true → first_at p i (drop i l) ≡ At i
+    pub first-here : p (get_or l i d) ≡ true → first_at p i (drop i l) ≡ Some i
     unfolding first_at
     first-here e = rw (drop_next l i d h, e)
 
@@ -60,7 +60,7 @@ module _ {A : Type 0} where
 
   -- nothing is left to look at
   module _ (p : A → Bool) (l : List A) (i : ℕ) (h : length l ≤ i) where
-    pub first_end : first_at p i (drop i l) ≡ Nothing
+    pub first_end : first_at p i (drop i l) ≡ None
     unfolding first_at
     first_end = rw (drop-none l i h)
 

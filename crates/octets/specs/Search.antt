@@ -1,14 +1,12 @@
 -- Questions about a list: where the first member that passes a test stands, how many pass, whether some or all do.
 -- Assumes nothing: these are definitions.
-use Rattle.std.specs.Prelude.{ℕ, suc, ◌+◌, Bool, true, false, List, [], ◌∷◌, eqb}
-use Rattle.octets.specs.declared.Found.{Found}
-use Rattle.octets.specs.declared.Found.TheVariants.{At, Nothing}
+use Rattle.std.specs.Prelude.{ℕ, suc, ◌+◌, Bool, true, false, List, [], ◌∷◌, eqb, Option, Some, None}
 use Rattle.octets.specs.Choice.{pick, both, either, one}
 
 -- the place of the first, the list's own first having the place k
-unfoldable pub first_at : {A : Type 0} → (A → Bool) → ℕ → List A → Found
-first_at p k [] = Nothing
-first_at p k (x ∷ l) = pick (p x) (At k) (first_at p (suc k) l)
+unfoldable pub first_at : {A : Type 0} → (A → Bool) → ℕ → List A → Option ℕ
+first_at p k [] = None
+first_at p k (x ∷ l) = pick (p x) (Some k) (first_at p (suc k) l)
 
 unfoldable pub count_if : {A : Type 0} → (A → Bool) → List A → ℕ
 count_if p [] = 0

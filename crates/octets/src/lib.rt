@@ -6,13 +6,6 @@ ghost use Rattle.octets.specs.Numbers.{u16_at, u32_at, be16, be32};
 ghost use Rattle.octets.specs.Put.{put_at};
 ghost use Rattle.octets.specs.Search.{same_list};
 
-// What a search answers: the place of the first that fits, or that there is none.
-#[derive(Clone, Copy)]
-pub enum Found {
-    At(usize),
-    Nothing,
-}
-
 // A byte as an index: a cast of an element asks a proof that it fits, a cast of a parameter does not.
 pub fn wide(x: u8) -> usize
     ensures { result ≡ x }

@@ -8,7 +8,7 @@ ghost use Rattle.octets.specs.Search.{same_list};
 ghost use Rattle.wire.specs.Header.{header_size, header_at, verdict_of};
 ghost use Rattle.model.specs.RuleTest.{passes, is_skip_fault, is_skipped, possible_at, is_boundary, tidy_at};
 
-use kinds::{Fault, Place, Verdict};
+use kinds::{Fault, Place};
 use wire::header;
 use wire::header::Header;
 
@@ -16,12 +16,12 @@ const HEADER: usize = 8;
 
 // ---- what the verdict on a header says
 
-fn passes(v: Verdict) -> bool
+fn passes(v: Result<(), Fault>) -> bool
     ensures { result ≡ passes v }
 {
     match v {
-        Verdict::Passes => true,
-        Verdict::Wrong(_) => false,
+        Ok(()) => true,
+        Err(_) => false,
     }
 }
 
@@ -36,12 +36,12 @@ fn is_skip_fault(fault: Fault) -> bool
     }
 }
 
-fn is_skipped(v: Verdict) -> bool
+fn is_skipped(v: Result<(), Fault>) -> bool
     ensures { result ≡ is_skipped v }
 {
     match v {
-        Verdict::Passes => false,
-        Verdict::Wrong(fault) => is_skip_fault(fault),
+        Ok(()) => false,
+        Err(fault) => is_skip_fault(fault),
     }
 }
 

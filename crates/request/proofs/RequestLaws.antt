@@ -1,5 +1,6 @@
 -- Document 01's order for a request, a rule at a time; and what is done by it looks at three numbers of the sheet only.
 -- Assumes nothing.
+use Rattle.std.proofs.Common.{Some, None}
 use Prim.Native.Nat.{ℕ}
 use mathlib.Core.Path.{◌≡◌, refl, sym, ap, ◌∙◌}
 use mathlib.Core.Bool.{Bool, true, false}
@@ -14,7 +15,6 @@ use Rattle.kinds.specs.declared.Row.{Row}
 use Rattle.kinds.specs.declared.Decision.{Decision}
 use Rattle.kinds.specs.declared.Decision.TheVariants.{Now, Ask}
 use Rattle.sheet.specs.declared.find.Known.{Known}
-use Rattle.sheet.specs.declared.find.Found.TheVariants.{Is, Nobody}
 use Rattle.sheet.specs.Sheet.{testers_of}
 use Rattle.sheet.specs.Find.{lookup}
 use Rattle.model.specs.FarmSheet.{FarmSheet, farm_sheet}
@@ -46,11 +46,11 @@ state_active own rows address {st} {a} e h = ap Now h ∙ by (eqb a address) ∙
 -- ---- the order
 
 module _ (s : List ℕ) (f : ℕ) (rows : List Row) (seat : ℕ) (q : Request) where
-  pub decide_nobody : lookup q.address (testers_of s) ≡ Nobody → Now 0x00 ≡ decide (farm_sheet s f) rows seat q
+  pub decide_nobody : lookup q.address (testers_of s) ≡ None → Now 0x00 ≡ decide (farm_sheet s f) rows seat q
   unfolding decide farm_sheet
   decide_nobody e = rw e refl
 
-  module _ {k : Known} (e : lookup q.address (testers_of s) ≡ Is k) where
+  module _ {k : Known} (e : lookup q.address (testers_of s) ≡ Some k) where
     pub decide_other : eqb k.farm.0 f ≡ false → Now 0x00 ≡ decide (farm_sheet s f) rows seat q
     unfolding decide farm_sheet
     decide_other n = rw (e, n) refl

@@ -17,7 +17,6 @@ ghost use Rattle.request.specs.Again.{again_code};
 use kinds::{Decision, FarmNo, Request, RowState, Site};
 use rowwork::answer;
 use sheet::find;
-use sheet::find::Found;
 
 // "00: not a tester of this farm. 06: type other than 00 or 01.", and 02 for another address on an active row.
 const NO_TESTER: u8 = 0x00;
@@ -55,7 +54,7 @@ fn decision(b: &[u8], s: &[u8], f: FarmNo, site: Site, seat: usize, q: Request) 
     requires { Sited s.now f.0 site × (length b.now ≡ block_size) }
     ensures { result ≡ decide (farm_sheet s.now f.0) (farm_of b.now).rows seat q }
 {
-    let Found::Is(k) = find::find_tester(s, q.address) else {
+    let Some(k) = find::find_tester(s, q.address) else {
         return Decision::Now(NO_TESTER); // nobody's
     };
     let owner = k.farm;

@@ -1,5 +1,6 @@
 -- At most one entry of a call holds lent bytes, and these are 2,048 at most.
 -- Assumes nothing.
+use Rattle.std.proofs.Common.{Option, Result, Some, None, Ok, Err}
 use Prim.{Unit, tt}
 use Prim.Native.Nat.{ℕ, ◌+◌, ◌≤◌}
 use mathlib.Core.Path.{◌≡◌, refl}
@@ -10,14 +11,10 @@ use lib.Dec.{eqb, ltb}
 use lib.ListN.{length, length-take, set, take}
 use Rattle.octets.specs.Choice.{pick}
 use Rattle.octets.specs.Search.{count_if}
-use Rattle.kinds.specs.declared.Answer.{Answer}
-use Rattle.kinds.specs.declared.Answer.TheVariants.{Nothing as NoAnswer, With}
 use Rattle.kinds.specs.declared.Fault.{Fault}
 use Rattle.kinds.specs.declared.Request.{Request}
 use Rattle.kinds.specs.declared.Decision.{Decision}
 use Rattle.kinds.specs.declared.Decision.TheVariants.{Now, Ask}
-use Rattle.kinds.specs.declared.Verdict.{Verdict}
-use Rattle.kinds.specs.declared.Verdict.TheVariants.{Passes, Wrong}
 use Rattle.kinds.specs.declared.Place.{Place}
 use Rattle.kinds.specs.declared.Place.TheVariants.{Header, Reading, Skipping}
 use Rattle.kinds.specs.declared.Item.{Item}
@@ -125,9 +122,9 @@ module _ (own : FarmSheet) where
       (none_closings is_long refl own (λ seat r. at_limit r) (aged (clock_run f.line f))) (settle-short _)
 
 -- a datagram has one entry at most
-pub answers_few : (a : Answer) → length (answers a) ≤ 1
-answers_few NoAnswer = omega arith
-answers_few (With reply) = omega arith
+pub answers_few : (a : Option Reply) → length (answers a) ≤ 1
+answers_few None = omega arith
+answers_few (Some reply) = omega arith
 
 pub longs_few : (items : List Item) → longs items ≤ length items
 unfolding count_if
@@ -153,9 +150,9 @@ finished-fits kind size h room = by (is_stored kind)
 fed_fits : (p : Place) (head room : List ℕ) (byte : ℕ) → PossibleAt p head → FedFits (feed_at p head room byte)
 fed_fits (Header n) head room byte k = pick_case FedFits (ltb (n + 1) header_size) _ _ (λ _. tt) (λ _. by (verdict_of (header_at (set head n byte) 0)))
   where
-    by : (v : Verdict) → FedFits (judged v (set head n byte) room)
-    by Passes = tt
-    by (Wrong fault) = λ m. omega arith
+    by : (v : Result Unit Fault) → FedFits (judged v (set head n byte) room)
+    by (Ok tt) = tt
+    by (Err fault) = λ m. omega arith
 fed_fits (Reading n) head room byte k =
     pick_case FedFits (ltb (n + 1) (header_at head 0).length) _ _ (λ _. tt)
     (λ _. finished-fits (header_at head 0).kind (header_at head 0).length (passes-all (header_at head 0) k.1).short)

@@ -1,5 +1,6 @@
 -- Each call of one farm is small: few entries, at most one of them long, and that not too long.
 -- Assumes nothing.
+use Rattle.std.proofs.Common.{Option, Some, None}
 use Prim.{Unit, tt}
 use Prim.Native.Nat.{ℕ, ◌≤◌}
 use mathlib.Core.Path.{◌≡◌, refl}
@@ -9,8 +10,6 @@ use lib.Dec.{leb}
 use lib.ListN.{length, get_or, take}
 use borrow.Author.Tests.{leb-true}
 use Rattle.octets.specs.Search.{first_at, count_if}
-use Rattle.octets.specs.declared.Found.{Found}
-use Rattle.octets.specs.declared.Found.TheVariants.{At, Nothing}
 use Rattle.kinds.specs.declared.Item.{Item}
 use Rattle.kinds.specs.declared.RowState.{RowState}
 use Rattle.kinds.specs.declared.RowState.TheVariants.{Free, Fresh, Waiting, Active}
@@ -74,9 +73,9 @@ module _ (own : FarmSheet) (ok : FarmOk own) (h : Held) (k : Good own h.farm) wh
   unfolding connects
   connects-small = by (first_at is_free 0 (take own.rows h.farm.rows))
     where
-      by : (o : Found) → SmallMove (connected_at own h o)
-      by Nothing = tt
-      by (At seat) = small-none
+      by : (o : Option ℕ) → SmallMove (connected_at own h o)
+      by None = tt
+      by (Some seat) = small-none
 
   took-small : (seat : ℕ) (input : List ℕ) → SmallMove (took_bytes own h seat (taken_by seat (get_or h.rooms seat []) input h.farm))
   took-small seat input =
@@ -103,9 +102,9 @@ module _ (own : FarmSheet) (ok : FarmOk own) (h : Held) (k : Good own h.farm) wh
       (λ most. unless_case SmallMove (is_target (own.target from)) _ _ (λ _. tt)
       (λ _. by (leb-true (length user) most_user most) (first_at (active_as to) 0 h.farm.rows))))
     where
-      by : length user ≤ most_user → (o : Found) → SmallMove (to_tester own h from to user o)
-      by most Nothing = tt
-      by most (At seat) = small_one _ user (omega arith) (omega arith)
+      by : length user ≤ most_user → (o : Option ℕ) → SmallMove (to_tester own h from to user o)
+      by most None = tt
+      by most (Some seat) = small_one _ user (omega arith) (omega arith)
 
   -- EACH CALL OF A FARM IS SMALL.
   pub move-small : length own.names ≤ longest → (c : Own) → SmallMove (move own h c)

@@ -1,5 +1,7 @@
 -- Every call's entries have room: in the plan, and in the smallest output buffer.
 -- Assumes nothing.
+use Rattle.std.proofs.Common.{Option, Some, None}
+use Rattle.kinds.specs.declared.FarmNo.{FarmNo}
 use Prim.{Unit, tt}
 use Prim.Native.Nat.{ℕ, suc, ◌+◌, ◌*◌, ◌≤◌, ◌<◌}
 use mathlib.Core.Path.{◌≡◌, refl, ap}
@@ -13,8 +15,6 @@ use Rattle.octets.specs.Choice.{pick}
 use Rattle.octets.specs.Search.{count_if}
 use Rattle.octets.proofs.ChoiceLaws.{both_left, both_right}
 use Rattle.kinds.specs.declared.Item.{Item}
-use Rattle.sheet.specs.declared.rows.Owner.{Owner}
-use Rattle.sheet.specs.declared.rows.Owner.TheVariants.{Seat, Nobody}
 use Rattle.sheet.specs.Sheet.{farm_count}
 use Rattle.sheet.specs.Rules.{GoodSheet}
 use Rattle.sheet.specs.Rows.{rows_owned, first_row, rows_in, owner_of}
@@ -128,9 +128,9 @@ module _ (s : List ℕ) (t : Table) (g : GoodSheet s) (k : GoodAll s 0 t) where
   owned-small : (r : ℕ) (c : ℕ → Own) → SmallOut (called s t (of_owner (owner_of s r) c))
   owned-small r c = by (owner_of s r) refl
     where
-      by : (o : Owner) → owner_of s r ≡ o → SmallOut (called s t (of_owner o c))
-      by (Seat f seat) e = farm-small f.0 (c seat) (owner_seat s r f.0 seat e).farm_within
-      by Nobody e = tt
+      by : (o : Option (FarmNo × ℕ)) → owner_of s r ≡ o → SmallOut (called s t (of_owner o c))
+      by (Some (f, seat)) e = farm-small f.0 (c seat) (owner_seat s r f.0 seat e).farm_within
+      by None e = tt
 
   pub called-small : (c : Call) → SmallOut (called s t (whose s c))
   unfolding whose

@@ -1,5 +1,7 @@
 -- The farm's rules: the head of a line, a case at a time; and what is said of a farm's rule sheet, carried to the whole sheet.
 -- Assumes nothing.
+use Rattle.std.proofs.Common.{Option, Some, None}
+use Rattle.sheet.specs.declared.find.Known.{Known}
 use Prim.Native.Nat.{ℕ, ◌+◌, ◌≤◌}
 use mathlib.Core.Path.{◌≡◌, refl, sym, ap, ◌∙◌}
 use mathlib.Core.Bool.{false, not}
@@ -10,8 +12,6 @@ use lib.ListN.{length, get_or}
 use borrow.Author.Tests.{lt-ltb, le-ltb, ne_eqb}
 use Rattle.octets.specs.Choice.{pick, either}
 use Rattle.kinds.specs.declared.Site.{Site}
-use Rattle.sheet.specs.declared.find.Found.{Found}
-use Rattle.sheet.specs.declared.find.Found.TheVariants.{Is, Nobody}
 use Rattle.sheet.specs.Sheet.{farm_count, testers_of}
 use Rattle.sheet.specs.Rules.{GoodSheet}
 use Rattle.sheet.specs.Find.{lookup}
@@ -84,9 +84,9 @@ module _ (s : List ℕ) (f : ℕ) (good : GoodSheet s) (beyond : farm_count s �
   no_tester : (a : ℕ) → tester_in s f a ≡ false
   no_tester a = by (lookup a (testers_of s)) refl
     where
-      by : (r : Found) → lookup a (testers_of s) ≡ r → tester_by f r ≡ false
-      by (Is k) e = ne_eqb k.farm.0 f (λ z. absurd (omega (arith, (found_tester s good a k e).farm_exists)))
-      by Nobody e = refl
+      by : (r : Option Known) → lookup a (testers_of s) ≡ r → tester_by f r ≡ false
+      by (Some k) e = ne_eqb k.farm.0 f (λ z. absurd (omega (arith, (found_tester s good a k e).farm_exists)))
+      by None e = refl
 
   rule_none : SameRule (rule_sheet s f (record { first = 0; quota = 0; entity = 0 }) 0) no_farm
   unfolding rule_sheet no_farm

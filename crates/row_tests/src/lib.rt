@@ -15,7 +15,6 @@ ghost use Rattle.row_tests.specs.Tester.{tester_in};
 
 use kinds::{FarmNo, Site};
 use sheet::find;
-use sheet::find::Found;
 use table::SEATS;
 
 // "an active address isn't that farm's tester"
@@ -23,8 +22,7 @@ pub fn is_tester(s: &[u8], f: FarmNo, address: u16) -> bool
     requires { GoodSheet s.now }
     ensures { result ≡ tester_in s.now f.0 address }
 {
-    let found = find::find_tester(s, address);
-    let Found::Is(k) = found else {
+    let Some(k) = find::find_tester(s, address) else {
         return false;
     };
     k.farm.0 == f.0

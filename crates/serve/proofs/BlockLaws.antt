@@ -1,10 +1,10 @@
 -- A function was lent a farm's block of the table: what it did there is done to the table.
 -- Assumes nothing.
+use Rattle.std.proofs.Common.{Option}
 use Prim.Native.Nat.{ℕ, ◌+◌, ◌-◌, ◌*◌, ◌<◌}
 use mathlib.Core.Path.{◌≡◌, refl, sym, subst}
 use mathlib.Core.List.{List, ◌++◌}
 use lib.ListN.{length, take, drop}
-use Rattle.octets.specs.declared.Found.{Found}
 use Rattle.octets.proofs.PartsLaws.{part-between}
 use Rattle.sheet.specs.Sheet.{most_farms}
 use Rattle.model.specs.Farm.{Farm, Done}
@@ -38,7 +38,7 @@ did-lent t b p plan f step long h d =
           (subst (λ (x : List ℕ). Did p b plan (step (farm_of x))) (lent_is t f) d);
     }
 
-pub connected-lent : (t b : List ℕ) (f rows : ℕ) (r : Found) → length t ≡ table_size → f < most_farms → Connected rows (lent_block t f) b r
+pub connected-lent : (t b : List ℕ) (f rows : ℕ) (r : Option ℕ) → length t ≡ table_size → f < most_farms → Connected rows (lent_block t f) b r
     → ConnectedAt f rows t (given_back t f b) r
 connected-lent t b f rows r long h d =
     let back = lent_back t b f (f * block_size + block_size) long h refl d.held.whole.long in

@@ -1,5 +1,6 @@
 -- Connect, peer closed and link lost: from what the code has done to the call's outcome.
 -- Assumes nothing.
+use Rattle.std.proofs.Common.{Option, Some, None}
 use Prim.Native.Nat.{ℕ, ◌+◌, ◌*◌, ◌≤◌, ◌<◌}
 use mathlib.Core.Path.{◌≡◌, refl, sym, ap, ◌∙◌, subst}
 use mathlib.Core.Bool.{Bool, true, false}
@@ -7,13 +8,10 @@ use mathlib.Core.List.{List, [], ◌++◌}
 use native.Mathlib.Omega.{arith}
 use lib.ListN.{length, take, drop, set, take-append-drop}
 use Rattle.octets.specs.Choice.{pick}
-use Rattle.octets.specs.declared.Found.{Found}
-use Rattle.octets.specs.declared.Found.TheVariants.{At, Nothing}
 use Rattle.octets.specs.Parts.{part}
 use Rattle.octets.specs.Put.{put_at}
 use Rattle.octets.specs.Search.{first_at}
 use Rattle.octets.proofs.PartsLaws.{mid_put, length_part}
-use Rattle.sheet.specs.declared.rows.Owner.TheVariants.{Seat}
 use Rattle.sheet.specs.Sheet.{most_farms, farm_count, farm_no}
 use Rattle.sheet.specs.Rows.{first_row, rows_owned, owner_of}
 use Rattle.outsheet.specs.Sheet.{sheet_of}
@@ -65,7 +63,7 @@ module _ (s t out m : List ℕ) (p : Passed s t out m) (long : length t ≡ tabl
 
   -- ---- peer closed
 
-  peer_goes : (r f seat : ℕ) → owner_of s r ≡ Seat (farm_no f) seat → f < farm_count s → (b : Bool) → is_open (row_at (farm_of (block t f)).rows seat) ≡ b
+  peer_goes : (r f seat : ℕ) → owner_of s r ≡ Some (farm_no f, seat) → f < farm_count s → (b : Bool) → is_open (row_at (farm_of (block t f)).rows seat) ≡ b
       → lent_step s t out m (peer_closed_on r)
       ≡ moved_to (lent_table s t m) f (pick b (moves (held_at s t m f) (peer_gone (farm_sheet s f) seat (farm_of (block t f)))) (refused 6))
   unfolding whose move held_at
@@ -76,11 +74,11 @@ module _ (s t out m : List ℕ) (p : Passed s t out m) (long : length t ≡ tabl
       e
 
   -- "6 | row not open"
-  pub peer_not_open : (r f seat : ℕ) → owner_of s r ≡ Seat (farm_no f) seat → f < farm_count s → is_open (row_at (farm_of (block t f)).rows seat) ≡ false
+  pub peer_not_open : (r f seat : ℕ) → owner_of s r ≡ Some (farm_no f, seat) → f < farm_count s → is_open (row_at (farm_of (block t f)).rows seat) ≡ false
       → lent_step s t out m (peer_closed_on r) ≡ refuses 6
   peer_not_open r f seat o h e = peer_goes r f seat o h false e
 
-  pub peer_served : (r f seat : ℕ) (after output : List ℕ) (a : Answer) → owner_of s r ≡ Seat (farm_no f) seat → f < farm_count s
+  pub peer_served : (r f seat : ℕ) (after output : List ℕ) (a : Answer) → owner_of s r ≡ Some (farm_no f, seat) → f < farm_count s
       → is_open (row_at (farm_of (block t f)).rows seat) ≡ true → Moved f (peer_gone (farm_sheet s f) seat (farm_of (block t f))) t out after output a
       → Served s (lent_step s t out m (peer_closed_on r)) a (memory t out m) (memory after output m)
   peer_served r f seat after output a o h e x =
@@ -88,14 +86,14 @@ module _ (s t out m : List ℕ) (p : Passed s t out m) (long : length t ≡ tabl
 
   -- ---- connect
 
-  connect_goes : (f : ℕ) → f < farm_count s → (found : Found) → found ≡ first_at is_free 0 (take (rows_owned s f) (farm_of (block t f)).rows)
+  connect_goes : (f : ℕ) → f < farm_count s → (found : Option ℕ) → found ≡ first_at is_free 0 (take (rows_owned s f) (farm_of (block t f)).rows)
       → lent_step s t out m (connect_to f) ≡ moved_to (lent_table s t m) f (connected_at (farm_sheet s f) (held_at s t m f) found)
   unfolding whose move held_at connects farm_sheet
   connect_goes f h found e =
       farm_goes s t out m p long (connect_to f) f connect refl h
-      ∙ sym (ap (λ (x : Found). moved_to (lent_table s t m) f (connected_at (farm_sheet s f) (held_at s t m f) x)) e)
+      ∙ sym (ap (λ (x : Option ℕ). moved_to (lent_table s t m) f (connected_at (farm_sheet s f) (held_at s t m f) x)) e)
 
-  module _ (f rows : ℕ) (after : List ℕ) (found : Found) (h : f < farm_count s) (n : rows ≡ rows_owned s f) (x : ConnectedAt f rows t after found) where
+  module _ (f rows : ℕ) (after : List ℕ) (found : Option ℕ) (h : f < farm_count s) (n : rows ≡ rows_owned s f) (x : ConnectedAt f rows t after found) where
     is_found : found ≡ first_at is_free 0 (take (rows_owned s f) (farm_of (block t f)).rows)
     is_found = x.connected.is ∙ ap (λ (k : ℕ). first_at is_free 0 (take k (farm_of (block t f)).rows)) n
 
@@ -103,14 +101,14 @@ module _ (s t out m : List ℕ) (p : Passed s t out m) (long : length t ≡ tabl
     below = omega (arith, h, p.lendable.sheet.head.farms_at_most)
 
     -- "8 | connect, and the farm has no free row": nothing has changed
-    pub connect-refused : (a : Answer) → found ≡ Nothing → a ≡ refusal 8
+    pub connect-refused : (a : Answer) → found ≡ None → a ≡ refusal 8
         → Served s (lent_step s t out m (connect_to f)) a (memory t out m) (memory after out m)
     connect-refused a e k =
         subst (λ (y : List ℕ). Served s (lent_step s t out m (connect_to f)) a (memory t out m) (memory y out m))
         (sym
         (still_same s t after f (ready_of s t out m p long f h) below x.only
-        (subst (λ (y : Found). Holds (block after f) (connected_farm (farm_of (block t f)) y)) e x.connected.held)))
-        (refused_as s (lent_step s t out m (connect_to f)) 8 a (memory t out m) k (connect_goes f h Nothing (sym e ∙ is_found)))
+        (subst (λ (y : Option ℕ). Holds (block after f) (connected_farm (farm_of (block t f)) y)) e x.connected.held)))
+        (refused_as s (lent_step s t out m (connect_to f)) 8 a (memory t out m) k (connect_goes f h None (sym e ∙ is_found)))
 
     connect_did : ℕ → Did
     connect_did seat =
@@ -122,13 +120,13 @@ module _ (s t out m : List ℕ) (p : Passed s t out m) (long : length t ≡ tabl
           table = set (lent_table s t m) f (record { farm = with_row (farm_of (block t f)) seat fresh_row; rooms = (held_at s t m f).rooms });
         }
 
-    pub connect-served : (seat row : ℕ) (output : List ℕ) (a : Answer) (k : ℕ) → found ≡ At seat → row ≡ first_row s f + seat → a ≡ done row 0 k
+    pub connect-served : (seat row : ℕ) (output : List ℕ) (a : Answer) (k : ℕ) → found ≡ Some seat → row ≡ first_row s f + seat → a ≡ done row 0 k
         → Wrote (sheet_of (entries_of [] [])) out output k → Served s (lent_step s t out m (connect_to f)) a (memory t out m) (memory after output m)
     unfolding held_at farm_sheet connect_did
     connect-served seat row output a k e r i w =
         subst (λ (y : Answer). Served s (lent_step s t out m (connect_to f)) y (memory t out m) (memory after output m)) (sym (i ∙ ap (λ (y : ℕ). done y 0 k) r))
         (served-did s (lent_step s t out m (connect_to f)) (connect_did seat) t out m after output m k p.lendable.sheet
-        (connect_goes f h (At seat) (sym e ∙ is_found))
+        (connect_goes f h (Some seat) (sym e ∙ is_found))
         (left_moved s t out m p long (connect_did seat) f (with_row (farm_of (block t f)) seat fresh_row) after below x.only
-        (subst (λ (y : Found). Holds (block after f) (connected_farm (farm_of (block t f)) y)) e x.connected.held) refl)
+        (subst (λ (y : Option ℕ). Holds (block after f) (connected_farm (farm_of (block t f)) y)) e x.connected.held) refl)
         w)

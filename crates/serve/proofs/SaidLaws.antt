@@ -1,5 +1,7 @@
 -- Calls that leave the table as it is, a datagram and a controller's message: what they say has room, and they are served.
 -- Assumes nothing.
+use Rattle.std.proofs.Common.{Option, Some, None}
+use Rattle.kinds.specs.declared.Reply.{Reply}
 use Prim.Native.Nat.{ℕ, ◌≤◌, ◌<◌}
 use mathlib.Core.Path.{◌≡◌, refl, sym, ap, ap₂, ◌∙◌, subst}
 use mathlib.Core.List.{List, []}
@@ -9,11 +11,8 @@ use lib.ListN.{length, set}
 use lib.Seq.{set-get_or}
 use borrow.Author.Tests.{leb-true}
 use Rattle.octets.specs.Search.{first_at}
-use Rattle.octets.specs.declared.Found.{Found}
-use Rattle.octets.specs.declared.Found.TheVariants.{At, Nothing}
 use Rattle.octets.proofs.PartsLaws.{length_part}
 use Rattle.kinds.specs.declared.Item.{Item}
-use Rattle.kinds.specs.declared.Answer.{Answer as Replied}
 use Rattle.sheet.specs.Sheet.{farm_count, farm_at, farm_size, farm_record}
 use Rattle.sheet.proofs.LengthLaws.{good_lengths}
 use Rattle.datagram.specs.Datagram.{answer_to}
@@ -61,20 +60,20 @@ pub open_byte : {s t : List ℕ} {f : ℕ} → Ready s t f → open_rows (farm_o
 unfolding seat_count
 open_byte {s} {t} {f} r = omega (arith, open_within r.good, (farm-ok s f r.sheet r.has).rooms)
 
-answer-small : (a : Replied) (long : List ℕ) → length long ≤ longest → Small (answers a) long
+answer-small : (a : Option Reply) (long : List ℕ) → length long ≤ longest → Small (answers a) long
 answer-small a long h =
     record { few = omega (arith, answers_few a); one_long = omega (arith, answers_few a, longs_few (answers a)); short = h }
 
 -- the code's answer, over the record that it has lent, is the model's
-pub answer_same : (input : List ℕ) {farm own : List ℕ} {n k : ℕ} {a : Replied} → farm ≡ own → n ≡ k → a ≡ answer_to input farm n → a ≡ answer_to input own k
+pub answer_same : (input : List ℕ) {farm own : List ℕ} {n k : ℕ} {a : Option Reply} → farm ≡ own → n ≡ k → a ≡ answer_to input farm n → a ≡ answer_to input own k
 answer_same input e h x = x ∙ ap₂ (answer_to input) e h
 
-pub answer-room : {s t : List ℕ} {f : ℕ} (plan farm : List ℕ) (n : ℕ) (a : Replied) → Ready s t f → farm ≡ farm_record s f → Said plan (answers a) → least_output ≤ n
+pub answer-room : {s t : List ℕ} {f : ℕ} (plan farm : List ℕ) (n : ℕ) (a : Option Reply) → Ready s t f → farm ≡ farm_record s f → Said plan (answers a) → least_output ≤ n
     → Room plan farm n
 answer-room plan farm n a r e x h =
     small-room plan farm n (answers a) x.ok x.is (answer-small a farm (omega (arith, ap length e, record_long r))) h
 
-pub answer_out : {plan farm own out output : List ℕ} {a b : Replied} {r : Answer} → farm ≡ own → a ≡ b → Said plan (answers a) → r ≡ done no_row 0 r.length
+pub answer_out : {plan farm own out output : List ℕ} {a b : Option Reply} {r : Answer} → farm ≡ own → a ≡ b → Said plan (answers a) → r ≡ done no_row 0 r.length
     → Wrote (sheet_of (entries_of farm (items_of plan))) out output r.length → SaidOut own (answers b) out output r
 answer_out {plan} {farm} {own} {out} {output} {a} {b} {r} e k x d w =
     record {
@@ -99,9 +98,9 @@ sent own h from to user =
     (λ most. unless_case (Sent h user) (is_target (own.target from)) _ _ (λ _. omega arith)
     (λ _. by (leb-true (length user) most_user most) (first_at (active_as to) 0 h.farm.rows))))
   where
-    by : length user ≤ most_user → (o : Found) → Sent h user (to_tester own h from to user o)
-    by most Nothing = omega arith
-    by most (At seat) = (record { few = omega arith; one_long = longs_few _; short = omega arith }, refl)
+    by : length user ≤ most_user → (o : Option ℕ) → Sent h user (to_tester own h from to user o)
+    by most None = omega arith
+    by most (Some seat) = (record { few = omega arith; one_long = longs_few _; short = omega arith }, refl)
 
 module _ {s : List ℕ} {f : ℕ} {farm : Farm} {p plan : List ℕ} {from to : ℕ} {user : List ℕ} {n : ℕ} (x : Messaged s f farm p plan from to user n) where
   -- refusals 9 and 10

@@ -1,5 +1,7 @@
 -- From refusals 1 to 4 on: whose call it is, what it knows of its farm, and how what the code has done is the call's outcome.
 -- Assumes nothing.
+use Rattle.std.proofs.Common.{Option, Some, None}
+use Rattle.kinds.specs.declared.FarmNo.{FarmNo}
 use Prim.Native.Nat.{ℕ, ◌*◌, ◌≤◌, ◌<◌}
 use mathlib.Core.Path.{◌≡◌, refl, sym, ap, ◌∙◌, subst}
 use mathlib.Core.Bool.{true}
@@ -9,8 +11,6 @@ use lib.ListN.{length, set}
 use borrow.Author.Tests.{lt-ltb, le-ltb}
 use Rattle.octets.specs.Choice.{pick}
 use Rattle.octets.proofs.PartsLaws.{length_part}
-use Rattle.sheet.specs.declared.rows.Owner.{Owner}
-use Rattle.sheet.specs.declared.rows.Owner.TheVariants.{Seat, Nobody}
 use Rattle.sheet.specs.Sheet.{most_farms, farm_count, farm_no}
 use Rattle.sheet.specs.Rows.{owner_of}
 use Rattle.model.specs.FarmSheet.{FarmSheet, farm_sheet}
@@ -83,14 +83,14 @@ module _ (s t out m : List ℕ) (p : Passed s t out m) (long : length t ≡ tabl
       by-whose c (farms f own) (e ∙ ap (λ b. pick b (farms f own) (nobodys 5)) (lt-ltb f (farm_count s) h)) ∙ farm-moves f own h
 
   -- "6 | row not open": a row that is nobody's
-  pub row_unknown : (c : Call) (r : ℕ) (own : ℕ → Own) → whose s c ≡ of_owner (owner_of s r) own → owner_of s r ≡ Nobody → lent_step s t out m c ≡ refuses 6
-  row_unknown c r own e n = by-whose c (nobodys 6) (e ∙ ap (λ (o : Owner). of_owner o own) n)
+  pub row_unknown : (c : Call) (r : ℕ) (own : ℕ → Own) → whose s c ≡ of_owner (owner_of s r) own → owner_of s r ≡ None → lent_step s t out m c ≡ refuses 6
+  row_unknown c r own e n = by-whose c (nobodys 6) (e ∙ ap (λ (o : Option (FarmNo × ℕ)). of_owner o own) n)
 
   -- the row is a farm's: the farm's own call decides
-  pub row_goes : (c : Call) (r f seat : ℕ) (own : ℕ → Own) → whose s c ≡ of_owner (owner_of s r) own → owner_of s r ≡ Seat (farm_no f) seat → f < farm_count s
+  pub row_goes : (c : Call) (r f seat : ℕ) (own : ℕ → Own) → whose s c ≡ of_owner (owner_of s r) own → owner_of s r ≡ Some (farm_no f, seat) → f < farm_count s
       → lent_step s t out m c ≡ moved_to (lent_table s t m) f (move (farm_sheet s f) (held_at s t m f) (own seat))
   row_goes c r f seat own e n h =
-      by-whose c (farms f (own seat)) (e ∙ ap (λ (o : Owner). of_owner o own) n) ∙ farm-moves f (own seat) h
+      by-whose c (farms f (own seat)) (e ∙ ap (λ (o : Option (FarmNo × ℕ)). of_owner o own) n) ∙ farm-moves f (own seat) h
 
   -- ---- the farm moved
 

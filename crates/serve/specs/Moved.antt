@@ -1,7 +1,6 @@
 -- What a call has done that moves one farm: in the table, and with the output sheet.
 -- Assumes nothing: these are definitions.
-use Rattle.std.specs.Prelude.{ℕ, ◌≡◌, List, []}
-use Rattle.octets.specs.declared.Found.{Found}
+use Rattle.std.specs.Prelude.{ℕ, ◌≡◌, List, [], Option}
 use Rattle.kinds.specs.declared.Item.{Item}
 use Rattle.outsheet.specs.Sheet.{sheet_of}
 use Rattle.outsheet.specs.Replies.{entries_of}
@@ -29,7 +28,7 @@ pub record Moved (f : ℕ) (d : Done) (t out after output : List ℕ) (a : Answe
   pub wrote : Wrote (sheet_of (entries_of [] d.items)) out output a.length
 
 -- in the table: the lowest free row of the farm's own rows, of which there are so many, is fresh
-pub record ConnectedAt (f rows : ℕ) (t after : List ℕ) (r : Found) : Type 0 where
+pub record ConnectedAt (f rows : ℕ) (t after : List ℕ) (r : Option ℕ) : Type 0 where
   pub only : Only f t after
   pub connected : Connected rows (block t f) (block after f) r
 

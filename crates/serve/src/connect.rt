@@ -6,11 +6,10 @@ ghost use Rattle.table.specs.Block.{Whole};
 ghost use Rattle.lent.specs.Lent.{block};
 ghost use Rattle.serve.specs.Moved.{ConnectedAt};
 
-use octets::Found;
 use table::BLOCK;
 
 // The farm's block is lent alone.
-pub fn connect_at(t: &mut [u8], f: usize, rows: usize) -> Found
+pub fn connect_at(t: &mut [u8], f: usize, rows: usize) -> Option<usize>
     requires { (f < most_farms) × (length t.old ≡ table_size) × (rows ≤ seats) × Whole (block t.old f) }
     ensures { ConnectedAt f rows t.old t.new result }
 {

@@ -13,20 +13,20 @@ ghost use Rattle.serve.specs.Ready.{Ready};
 ghost use Rattle.serve.specs.Moved.{SaidOut};
 
 use closing::say::VERSION;
-use kinds::{FarmNo, Item, RowNo};
+use kinds::{FarmNo, Item, Reply, RowNo};
 use lent::Answer;
 use plan::PLAN;
 use serve::at;
 use sheet::farms;
 
 // "A datagram's reply has row 255."
-fn push_answer(p: &mut [u8], a: kinds::Answer)
+fn push_answer(p: &mut [u8], a: Option<Reply>)
     requires { Said p.old [] }
     ensures { Said p.new (answers a) }
 {
     match a {
-        kinds::Answer::Nothing => {}
-        kinds::Answer::With(reply) => {
+        None => {}
+        Some(reply) => {
             plan::push(
                 p,
                 Item {

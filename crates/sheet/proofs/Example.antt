@@ -1,12 +1,11 @@
 -- The rules can be kept: the sheet of document 01's first worked days (entity 1000, tester 0E00, target 1010; q = 3, so that there is a row 3) is good, its
 -- tester and target are found, and row 3 is the farm's last seat. So what the functions of this crate require is met by some sheet.
 -- Assumes nothing.
+use Rattle.std.proofs.Common.{Some, None}
 use mathlib.Core.Path.{◌≡◌, refl}
 use mathlib.Core.List.{List, [], ◌∷◌}
 use Prim.Native.Nat.{ℕ, zero, suc, ◌<◌}
 use native.Mathlib.Omega.{arith}
-use Rattle.sheet.specs.declared.find.Found.TheVariants.{Is, Nobody}
-use Rattle.sheet.specs.declared.rows.Owner.TheVariants.{Seat}
 use Rattle.sheet.specs.Sheet.{testers_at, targets_at, testers_of, targets_of, farm_no, tester_flag, target_flag}
 use Rattle.sheet.specs.Rules.{GoodFarm, GoodKnown, GoodSheet}
 use Rattle.sheet.specs.Find.{lookup}
@@ -54,18 +53,18 @@ rig_good =
     }
 
 -- 0E00 is the tester, 1010 the reachable target; 0E01 is nobody
-pub rig_tester : lookup 3584 (testers_of rig) ≡ Is (record { address = 3584; farm = farm_no 0; flag = 0 })
+pub rig_tester : lookup 3584 (testers_of rig) ≡ Some (record { address = 3584; farm = farm_no 0; flag = 0 })
 unfolding lookup parts
 rig_tester = refl
 
-pub rig_target : lookup 4112 (targets_of rig) ≡ Is (record { address = 4112; farm = farm_no 0; flag = 1 })
+pub rig_target : lookup 4112 (targets_of rig) ≡ Some (record { address = 4112; farm = farm_no 0; flag = 1 })
 unfolding lookup parts
 rig_target = refl
 
-pub rig_nobody : lookup 3585 (testers_of rig) ≡ Nobody
+pub rig_nobody : lookup 3585 (testers_of rig) ≡ None
 unfolding lookup parts
 rig_nobody = refl
 
-pub rig_row : owner_of rig 3 ≡ Seat (farm_no 0) 3
+pub rig_row : owner_of rig 3 ≡ Some (farm_no 0, 3)
 unfolding owner_from
 rig_row = refl

@@ -1,5 +1,6 @@
 -- Laws of the lookup and of what it looks through: a section of the sheet as a list of testers or targets.
 -- Assumes nothing.
+use Rattle.std.proofs.Common.{Option, Some, None}
 use mathlib.Core.Path.{◌≡◌, refl, sym, ap, ◌∙◌}
 use mathlib.Core.Bool.{Bool, true, false}
 use mathlib.Core.List.Memᴰ
@@ -16,8 +17,6 @@ use Rattle.octets.specs.Numbers.{u16_at}
 use Rattle.octets.specs.Parts.{part, parts}
 use Rattle.octets.proofs.PartsLaws.{parts-length, get_or-part}
 use Rattle.sheet.specs.declared.find.Known.{Known}
-use Rattle.sheet.specs.declared.find.Found.{Found}
-use Rattle.sheet.specs.declared.find.Found.TheVariants.{Is, Nobody}
 use Rattle.sheet.specs.Sheet.{known_size, known_from, knowns_at, farm_no, address_at}
 use Rattle.sheet.specs.Sheet.{testers_of, targets_of, farm_count, tester_count, target_count, testers_at, targets_at, tester_flag, target_flag}
 use Rattle.sheet.specs.Rules.{GoodSection, GoodSheet}
@@ -39,7 +38,7 @@ knowns_length s at n = length-map (parts known_size at n s) known_from ∙ parts
 
 -- ---- a step of the search: the four bytes at p are looked at, and n are left with them
 
-pub lookup-here : (x : ℕ) (s : List ℕ) (p n : ℕ) → 0 < n → u16_at s p ≡ x → lookup x (knowns_at s p n) ≡ Is (known_from (part s p known_size))
+pub lookup-here : (x : ℕ) (s : List ℕ) (p n : ℕ) → 0 < n → u16_at s p ≡ x → lookup x (knowns_at s p n) ≡ Some (known_from (part s p known_size))
 unfolding lookup parts
 lookup-here x s p zero h e = absurd (omega arith)
 lookup-here x s p (suc n) h e = rw (eq-eqb (known_from (part s p known_size)).address x (ap (λ (k : Known). k.address) (known_part s p) ∙ e))
@@ -53,7 +52,7 @@ lookup_next x s p (suc n) h ne =
     rw (ne_eqb (known_from (part s p known_size)).address x (λ e. ne (sym (ap (λ (k : Known). k.address) (known_part s p)) ∙ e)))
     (ap (λ (m : ℕ). lookup x (knowns_at s (p + known_size) m)) z)
 
-pub lookup_end : (x : ℕ) (s : List ℕ) (p n : ℕ) → n ≤ 0 → lookup x (knowns_at s p n) ≡ Nobody
+pub lookup_end : (x : ℕ) (s : List ℕ) (p n : ℕ) → n ≤ 0 → lookup x (knowns_at s p n) ≡ None
 unfolding lookup parts
 lookup_end x s p zero h = refl
 lookup_end x s p (suc n) h = absurd (omega arith)
@@ -73,19 +72,19 @@ pub record Finds (x : ℕ) (l : List Known) (k : Known) : Type 0 where
 abbrev pub NobodyHas : ℕ → List Known → Type 0
 NobodyHas x l = (k : Known) → Memᴰ k l → k.address ≡ x → ⊥
 
-found_by : (b : Bool) (x : ℕ) (y k : Known) (l : List Known) → eqb y.address x ≡ b → pick b (Is y) (lookup x l) ≡ Is k
-    → (lookup x l ≡ Is k → Finds x l k) → Finds x (y ∷ l) k
+found_by : (b : Bool) (x : ℕ) (y k : Known) (l : List Known) → eqb y.address x ≡ b → pick b (Some y) (lookup x l) ≡ Some k
+    → (lookup x l ≡ Some k → Finds x l k) → Finds x (y ∷ l) k
 found_by true x y k l e f below =
     let z : k ≡ y = cc in record { member = Memᴰ.head z; has_address = ap (λ (m : Known). m.address) z ∙ eqb-true y.address x e }
 found_by false x y k l e f below = let t = below f in record { member = Memᴰ.tail t.member; has_address = t.has_address }
 
-pub lookup_finds : (x : ℕ) (l : List Known) (k : Known) → lookup x l ≡ Is k → Finds x l k
+pub lookup_finds : (x : ℕ) (l : List Known) (k : Known) → lookup x l ≡ Some k → Finds x l k
 unfolding lookup
 lookup_finds x [] k e = absurd (let z : ◌≡◌ {A = ℕ} 0 1 = cc in omega arith)
 lookup_finds x (y ∷ l) k e = found_by (eqb y.address x) x y k l refl e (lookup_finds x l k)
 
-nobody_by : (b : Bool) (x : ℕ) (y : Known) (l : List Known) → eqb y.address x ≡ b → pick b (Is y) (lookup x l) ≡ Nobody
-    → (lookup x l ≡ Nobody → NobodyHas x l) → NobodyHas x (y ∷ l)
+nobody_by : (b : Bool) (x : ℕ) (y : Known) (l : List Known) → eqb y.address x ≡ b → pick b (Some y) (lookup x l) ≡ None
+    → (lookup x l ≡ None → NobodyHas x l) → NobodyHas x (y ∷ l)
 nobody_by true x y l e f below k m a = let z : ◌≡◌ {A = ℕ} 0 1 = cc in omega arith
 nobody_by false x y l e f below k m a =
     ⊎_elim
@@ -93,13 +92,13 @@ nobody_by false x y l e f below k m a =
     (λ (t : Memᴰ k l). below f k t a)
     (Memᴰ.cases_cons m)
 
--- Nobody exactly where nobody has the address
-pub lookup_nobody : (x : ℕ) (l : List Known) → lookup x l ≡ Nobody → NobodyHas x l
+-- None exactly where nobody has the address
+pub lookup_nobody : (x : ℕ) (l : List Known) → lookup x l ≡ None → NobodyHas x l
 unfolding lookup
 lookup_nobody x [] e = λ k m a. Memᴰ.not-nil m
 lookup_nobody x (y ∷ l) e = nobody_by (eqb y.address x) x y l refl e (lookup_nobody x l)
 
-pub nobody_lookup : (x : ℕ) (l : List Known) → NobodyHas x l → lookup x l ≡ Nobody
+pub nobody_lookup : (x : ℕ) (l : List Known) → NobodyHas x l → lookup x l ≡ None
 unfolding lookup
 nobody_lookup x [] h = refl
 nobody_lookup x (y ∷ l) h =
@@ -171,12 +170,12 @@ module _ (s : List ℕ) (at n farms most : ℕ) (g : GoodSection s at n farms mo
       (le_or_lt t.i u.i)
 
   -- so a lookup of a member's address finds the member
-  found_again : (k : Known) → Memᴰ k (knowns_at s at n) → (r : Found) → lookup k.address (knowns_at s at n) ≡ r → r ≡ Is k
-  found_again k m (Is l) e =
-      let f = lookup_finds k.address (knowns_at s at n) l e in ap Is (member_only l k f.member m f.has_address)
-  found_again k m Nobody e = absurd (lookup_nobody k.address (knowns_at s at n) e k m refl)
+  found_again : (k : Known) → Memᴰ k (knowns_at s at n) → (r : Option Known) → lookup k.address (knowns_at s at n) ≡ r → r ≡ Some k
+  found_again k m (Some l) e =
+      let f = lookup_finds k.address (knowns_at s at n) l e in ap Some (member_only l k f.member m f.has_address)
+  found_again k m None e = absurd (lookup_nobody k.address (knowns_at s at n) e k m refl)
 
-  pub lookup_member : (k : Known) → Memᴰ k (knowns_at s at n) → lookup k.address (knowns_at s at n) ≡ Is k
+  pub lookup_member : (k : Known) → Memᴰ k (knowns_at s at n) → lookup k.address (knowns_at s at n) ≡ Some k
   lookup_member k m = found_again k m (lookup k.address (knowns_at s at n)) refl
 
 -- ---- the sheet's own two sections
@@ -195,15 +194,15 @@ module _ (s : List ℕ) (g : GoodSheet s) where
   pub target-only : (k l : Known) → Memᴰ k (targets_of s) → Memᴰ l (targets_of s) → k.address ≡ l.address → k ≡ l
   target-only = member_only s (targets_at s) (target_count s) (farm_count s) target_flag g.targets
 
-  pub lookup-tester : (k : Known) → Memᴰ k (testers_of s) → lookup k.address (testers_of s) ≡ Is k
+  pub lookup-tester : (k : Known) → Memᴰ k (testers_of s) → lookup k.address (testers_of s) ≡ Some k
   lookup-tester = lookup_member s (testers_at s) (tester_count s) (farm_count s) tester_flag g.testers
 
-  pub lookup-target : (k : Known) → Memᴰ k (targets_of s) → lookup k.address (targets_of s) ≡ Is k
+  pub lookup-target : (k : Known) → Memᴰ k (targets_of s) → lookup k.address (targets_of s) ≡ Some k
   lookup-target = lookup_member s (targets_at s) (target_count s) (farm_count s) target_flag g.targets
 
   -- what a lookup hands out is good
-  pub found_tester : (x : ℕ) (k : Known) → lookup x (testers_of s) ≡ Is k → GoodMember k (farm_count s) tester_flag
+  pub found_tester : (x : ℕ) (k : Known) → lookup x (testers_of s) ≡ Some k → GoodMember k (farm_count s) tester_flag
   found_tester x k e = tester-good k (lookup_finds x (testers_of s) k e).member
 
-  pub found_target : (x : ℕ) (k : Known) → lookup x (targets_of s) ≡ Is k → GoodMember k (farm_count s) target_flag
+  pub found_target : (x : ℕ) (k : Known) → lookup x (targets_of s) ≡ Some k → GoodMember k (farm_count s) target_flag
   found_target x k e = target-good k (lookup_finds x (targets_of s) k e).member

@@ -1,5 +1,6 @@
 -- Laws of whose row is whose: each row of the sheet is one seat of one farm, and each seat of a farm is one row of the sheet.
 -- Assumes nothing.
+use Rattle.std.proofs.Common.{Some, None}
 use mathlib.Core.Path.{◌≡◌, refl, sym, ap, ◌∙◌, subst}
 use mathlib.Core.List.{List}
 use mathlib.Core.Logic.{⊎_elim}
@@ -9,12 +10,11 @@ use native.Mathlib.Omega.{arith}
 use borrow.Author.Tests.{lt-ltb, le-ltb}
 use Rattle.sheet.proofs.Order.{le_or_lt}
 use Rattle.kinds.specs.declared.FarmNo.{FarmNo}
-use Rattle.sheet.specs.declared.rows.Owner.TheVariants.{Seat, Nobody}
 use Rattle.sheet.specs.Sheet.{farm_count, farm_no, most_quota, most_rows}
 use Rattle.sheet.specs.Rules.{GoodSheet}
 use Rattle.sheet.specs.Rows.{rows_owned, first_row, rows_in, owner_from, owner_of}
 
-same_seat : {f g i j : ℕ} → Seat (farm_no f) i ≡ Seat (farm_no g) j → (f ≡ g) × (i ≡ j)
+same_seat : {f g i j : ℕ} → Some (farm_no f, i) ≡ Some (farm_no g, j) → (f ≡ g) × (i ≡ j)
 same_seat {f} {g} e = let n : farm_no f ≡ farm_no g = cc in (ap (λ (k : FarmNo). k.0) n, cc)
 
 module _ (s : List ℕ) where
@@ -45,7 +45,7 @@ module _ (s : List ℕ) where
 
   -- ---- a step of the search for the owner
 
-  pub owner_here : (n f r : ℕ) → r < rows_owned s f → owner_from s (suc n) f r ≡ Seat (farm_no f) r
+  pub owner_here : (n f r : ℕ) → r < rows_owned s f → owner_from s (suc n) f r ≡ Some (farm_no f, r)
   unfolding owner_from
   owner_here n f r h = rw (lt-ltb r (rows_owned s f) h)
 
@@ -53,7 +53,7 @@ module _ (s : List ℕ) where
   unfolding owner_from
   owner_next n f r h = rw (le-ltb r (rows_owned s f) h)
 
-  pub owner-none : (f r : ℕ) → owner_from s 0 f r ≡ Nobody
+  pub owner-none : (f r : ℕ) → owner_from s 0 f r ≡ None
   unfolding owner_from
   owner-none f r = refl
 
@@ -84,18 +84,18 @@ module _ (s : List ℕ) where
     pub is_seat : IsSeat n r farm seat
 
   -- the seats of a farm are its rows, in order
-  pub owner_of_seat : (f seat : ℕ) → f < farm_count s → seat < rows_owned s f → owner_of s (first_row s f + seat) ≡ Seat (farm_no f) seat
+  pub owner_of_seat : (f seat : ℕ) → f < farm_count s → seat < rows_owned s f → owner_of s (first_row s f + seat) ≡ Some (farm_no f, seat)
   owner_of_seat f seat h k =
       let a : farm_count s ≡ f + suc (farm_count s - suc f) = omega arith in
       ap (λ (m : ℕ). owner_from s m 0 (first_row s f + seat)) a
       ∙ past f (suc (farm_count s - suc f)) seat
       ∙ owner_here (farm_count s - suc f) f seat k
 
-  pub seat_owner : (r f seat : ℕ) → IsSeat (farm_count s) r f seat → owner_of s r ≡ Seat (farm_no f) seat
+  pub seat_owner : (r f seat : ℕ) → IsSeat (farm_count s) r f seat → owner_of s r ≡ Some (farm_no f, seat)
   seat_owner r f seat p = ap (owner_of s) (sym p.is_row) ∙ owner_of_seat f seat p.farm_within p.seat_within
 
   -- beyond the sheet's rows there is no owner
-  pub owner_beyond : (r : ℕ) → rows_in s ≤ r → owner_of s r ≡ Nobody
+  pub owner_beyond : (r : ℕ) → rows_in s ≤ r → owner_of s r ≡ None
   owner_beyond r h =
       let a : farm_count s ≡ farm_count s + 0 = omega arith in
       let b : r ≡ rows_in s + (r - rows_in s) = omega arith in
@@ -135,22 +135,22 @@ module _ (s : List ℕ) where
 
   -- ---- what an answer says
 
-  -- Nobody exactly where the row is not below the sheet's rows
-  pub nobody_beyond : (r : ℕ) → owner_of s r ≡ Nobody → rows_in s ≤ r
+  -- None exactly where the row is not below the sheet's rows
+  pub nobody_beyond : (r : ℕ) → owner_of s r ≡ None → rows_in s ≤ r
   nobody_beyond r e =
       ⊎_elim
       (λ (h : rows_in s ≤ r). h)
       (λ (h : r < rows_in s).
       let p = place_of r h in
-      let q : owner_of s r ≡ Seat (farm_no p.farm) p.seat = seat_owner r p.farm p.seat p.is_seat in
+      let q : owner_of s r ≡ Some (farm_no p.farm, p.seat) = seat_owner r p.farm p.seat p.is_seat in
       absurd (let z : ◌≡◌ {A = ℕ} 0 1 = cc in omega arith))
       (le_or_lt (rows_in s) r)
 
   -- a seat exactly where the row is that seat
-  pub owner_seat : (r f seat : ℕ) → owner_of s r ≡ Seat (farm_no f) seat → IsSeat (farm_count s) r f seat
+  pub owner_seat : (r f seat : ℕ) → owner_of s r ≡ Some (farm_no f, seat) → IsSeat (farm_count s) r f seat
   owner_seat r f seat e =
       ⊎_elim
-      (λ (h : rows_in s ≤ r). let b : owner_of s r ≡ Nobody = owner_beyond r h in absurd (let z : ◌≡◌ {A = ℕ} 0 1 = cc in omega arith))
+      (λ (h : rows_in s ≤ r). let b : owner_of s r ≡ None = owner_beyond r h in absurd (let z : ◌≡◌ {A = ℕ} 0 1 = cc in omega arith))
       (λ (h : r < rows_in s).
       let p = place_of r h in
       let q = same_seat (sym (seat_owner r p.farm p.seat p.is_seat) ∙ e) in

@@ -16,12 +16,6 @@ pub struct Known {
     pub flag: u8,
 }
 
-#[derive(Clone, Copy)]
-pub enum Found {
-    Is(Known),
-    Nobody,
-}
-
 // The four bytes at a place.
 fn known_at(s: &[u8], p: usize) -> Known
     requires { p + known_size ≤ length s.now }
@@ -35,7 +29,7 @@ fn known_at(s: &[u8], p: usize) -> Known
 }
 
 // The one search, for both sections: n of them from the place at on.
-fn lookup_in(s: &[u8], at: usize, n: usize, address: u16) -> Found
+fn lookup_in(s: &[u8], at: usize, n: usize, address: u16) -> Option<Known>
     requires { at + n * known_size ≤ length s.now }
     ensures { result ≡ lookup address (knowns_at s.now at n) }
 {
@@ -43,24 +37,24 @@ fn lookup_in(s: &[u8], at: usize, n: usize, address: u16) -> Found
     let mut left = n;
     while 0 < left {
         if octets::read16(s, p) == address {
-            return Found::Is(known_at(s, p));
+            return Some(known_at(s, p));
         }
         p += KNOWN_SIZE;
         left -= 1;
     }
-    Found::Nobody
+    None
 }
 
 // The whole sheet's length is asked of both. A search by halves (request R-3) will ask besides that the addresses ascend, which its
 // callers have tested too.
-pub fn find_tester(s: &[u8], address: u16) -> Found
+pub fn find_tester(s: &[u8], address: u16) -> Option<Known>
     requires { end_at s.now ≤ length s.now }
     ensures { result ≡ lookup address (testers_of s.now) }
 {
     lookup_in(s, testers_at(s), tester_count(s), address)
 }
 
-pub fn find_target(s: &[u8], address: u16) -> Found
+pub fn find_target(s: &[u8], address: u16) -> Option<Known>
     requires { end_at s.now ≤ length s.now }
     ensures { result ≡ lookup address (targets_of s.now) }
 {

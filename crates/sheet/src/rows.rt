@@ -7,13 +7,6 @@ use crate::head::farm_count;
 use crate::{FARM_SIZE, HEAD_SIZE};
 use kinds::{FarmNo, RowNo};
 
-// The farm that owns a row, and the row's seat within it, 0 to q; Nobody for a row beyond the sheet's.
-#[derive(Clone, Copy)]
-pub enum Owner {
-    Seat(FarmNo, u8),
-    Nobody,
-}
-
 // How many rows the farm i has; as an index, so that nothing can wrap.
 fn rows_owned(s: &[u8], i: usize) -> usize
     requires { farm_at (i + 1) ≤ length s.now }
@@ -54,7 +47,8 @@ pub fn all_rows(s: &[u8]) -> usize
     rows_before(s, n)
 }
 
-pub fn owner_of(s: &[u8], row: RowNo) -> Owner
+// The farm that owns a row, and the row's seat within it, 0 to q; none for a row beyond the sheet's.
+pub fn owner_of(s: &[u8], row: RowNo) -> Option<(FarmNo, u8)>
     requires { testers_at s.now ≤ length s.now }
     ensures { result ≡ owner_of s.now row.0 }
 {
@@ -66,10 +60,10 @@ pub fn owner_of(s: &[u8], row: RowNo) -> Owner
         if left < own {
             let farm = i as u8;
             let seat = left as u8;
-            return Owner::Seat(FarmNo(farm), seat);
+            return Some((FarmNo(farm), seat));
         }
         left = left - own;
         i += 1;
     }
-    Owner::Nobody
+    None
 }

@@ -9,7 +9,7 @@ ghost use Rattle.model.specs.Rule.{PossibleAt};
 ghost use Rattle.model.specs.Stream.{is_stored, stream_of, taken, wrong, judged, after_wrong, takes};
 ghost use Rattle.stream.specs.Took.{taken_of, Takes, kept_run, between, later_by, takes_after};
 
-use kinds::{Event, Fault, Place, Verdict};
+use kinds::{Event, Fault, Place};
 
 // "Eight bytes: version, inverse, type u16, payload length u32."
 const HEADER_SIZE: usize = 8;
@@ -145,8 +145,8 @@ fn after_eighth(head: [u8; 8], room: &mut [u8], input: &[u8], k: usize) -> Took
     ensures { taken_of result room.new ≡ takes_after k (judged (verdict_of (header_at head 0)) head room.old) (λ t. takes t (drop k input.now)) }
 {
     match wire::header::judge(wire::header::read(&head, 0)) {
-        Verdict::Passes => later(k, take_reading(0, head, room, &input[k..])),
-        Verdict::Wrong(f) => after_wrong(k, f, head),
+        Ok(()) => later(k, take_reading(0, head, room, &input[k..])),
+        Err(f) => after_wrong(k, f, head),
     }
 }
 

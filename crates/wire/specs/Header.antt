@@ -1,12 +1,10 @@
 -- "Headers (001, 9.2, figure 15)": the eight bytes, and what is said of them on TCP.
 -- Assumes nothing: these are definitions.
-use Rattle.std.specs.Prelude.{ℕ, ◌+◌, ◌-◌, Bool, true, false, List, get_or, eqb, leb}
+use Rattle.std.specs.Prelude.{ℕ, ◌+◌, ◌-◌, Bool, true, false, List, get_or, eqb, leb, Result, Ok, Err}
 use Rattle.octets.specs.Choice.{both, unless}
 use Rattle.octets.specs.Numbers.{u16_at, u32_at}
 use Rattle.kinds.specs.declared.Fault.{Fault}
 use Rattle.kinds.specs.declared.Fault.TheVariants.{Pattern, UnknownType, TooLong, WrongLength}
-use Rattle.kinds.specs.declared.Verdict.{Verdict}
-use Rattle.kinds.specs.declared.Verdict.TheVariants.{Passes, Wrong}
 use Rattle.wire.specs.declared.header.Header.{Header}
 use Rattle.types.specs.Types.{tcp, known_on, length_fits}
 
@@ -32,12 +30,12 @@ right_pattern version inverse = both (eqb version our_version) (eqb inverse (255
 
 -- "Judged when all eight are in, in this order: 1. not 03 FC: NACK 00, close; 2. type unknown on this port: NACK 01, skip the
 -- payload; 3. length over 2,048: NACK 02, skip the payload; 4. length wrong for the type: NACK 04, close."
-unfoldable pub verdict_of : Header → Verdict
+unfoldable pub verdict_of : Header → Result Unit Fault
 verdict_of h =
-    unless (right_pattern h.version h.inverse) (Wrong Pattern)
-    (unless (known_on tcp h.kind) (Wrong UnknownType)
-    (unless (leb h.length most_payload) (Wrong TooLong)
-    (unless (length_fits tcp h.kind h.length) (Wrong WrongLength) Passes)))
+    unless (right_pattern h.version h.inverse) (Err Pattern)
+    (unless (known_on tcp h.kind) (Err UnknownType)
+    (unless (leb h.length most_payload) (Err TooLong)
+    (unless (length_fits tcp h.kind h.length) (Err WrongLength) Ok tt)))
 
 -- the paper's number for each fault; "NACK 03 (memory) isn't given; each row has its own room"
 abbrev pub code_of : Fault → ℕ

@@ -2,7 +2,7 @@
 ghost use Rattle.std.specs.Prelude.{◌≡◌, ◌+◌, ◌≤◌, length};
 ghost use Rattle.wire.specs.Header.{header_at, verdict_of, code_of, closes, everyday};
 
-use kinds::{Fault, Verdict};
+use kinds::Fault;
 
 #[derive(Clone, Copy)]
 pub struct Header {
@@ -38,28 +38,28 @@ fn is_everyday(kind: u16, n: u32) -> bool
     n <= 2048
 }
 
-pub fn judge(h: Header) -> Verdict
+pub fn judge(h: Header) -> Result<(), Fault>
     ensures { result ≡ verdict_of h }
 {
     if h.version != 3 {
-        return Verdict::Wrong(Fault::Pattern);
+        return Err(Fault::Pattern);
     }
     if h.inverse != 252 {
-        return Verdict::Wrong(Fault::Pattern);
+        return Err(Fault::Pattern);
     }
     if is_everyday(h.kind, h.length) {
-        return Verdict::Passes;
+        return Ok(());
     }
     if !types::known(types::TCP, h.kind) {
-        return Verdict::Wrong(Fault::UnknownType);
+        return Err(Fault::UnknownType);
     }
     if 2048 < h.length {
-        return Verdict::Wrong(Fault::TooLong);
+        return Err(Fault::TooLong);
     }
     if types::length_fits(types::TCP, h.kind, h.length) {
-        Verdict::Passes
+        Ok(())
     } else {
-        Verdict::Wrong(Fault::WrongLength)
+        Err(Fault::WrongLength)
     }
 }
 

@@ -1,9 +1,9 @@
 -- `bytes` meets its contract.
 -- Assumes nothing.
+use Rattle.std.proofs.Common.{Option, Some}
 use mathlib.Core.Path.{◌≡◌, refl, sym, ap, ◌∙◌}
 use native.Mathlib.Omega.{arith}
 use lib.ListN.{length}
-use Rattle.sheet.specs.declared.rows.Owner.TheVariants.{Seat}
 use Rattle.sheet.specs.Rows.{owner_of}
 use Rattle.sheet.proofs.LengthLaws.{good_lengths}
 use Rattle.sheet.proofs.RowsLaws.{owner_seat}
@@ -13,7 +13,6 @@ use Rattle.table.specs.Layout.{table_size}
 use mathlib.Core.List.{List}
 use Prim.Native.Nat.{ℕ, ◌≤◌}
 use Rattle.kinds.specs.declared.FarmNo.{FarmNo}
-use Rattle.sheet.specs.declared.rows.Owner.{Owner}
 use Rattle.lent.specs.Gate.{Passed, gate_number}
 use Rattle.lent.proofs.GateLaws.{gate_passes}
 use Rattle.lent.proofs.CallLaws.{refused_as, gate_served}
@@ -28,14 +27,14 @@ passed : (s t out m : List ℕ) (n : ℕ) → n ≡ gate_number s t out m → n 
 passed s t out m n is none = gate_passes s t out m (sym is ∙ omega arith)
 
 -- whose row it is
-owned : (s : List ℕ) (row : ℕ) (o : Owner) (f : FarmNo) (k seat : ℕ) → o ≡ owner_of s row → o ≡ Seat f k → seat ≡ k → owner_of s row ≡ Seat f seat
-owned s row o f k seat is told e = sym is ∙ told ∙ ap (Seat f) (sym e)
+owned : (s : List ℕ) (row : ℕ) (o : Option (FarmNo × ℕ)) (f : FarmNo) (k seat : ℕ) → o ≡ owner_of s row → o ≡ Some (f, k) → seat ≡ k → owner_of s row ≡ Some (f, seat)
+owned s row o f k seat is told e = sym is ∙ told ∙ ap (λ (j : ℕ). Some (f, j)) (sym e)
 
 pub returns-then-n-gt0 : goal.returns-then-n-gt0
 returns-then-n-gt0 c = gate_served _ _ _ _ _ _ _ c.refusal-n.ensures c.if-n-gt0.true c.refused.ensures
 
-pub owner_of-owner-requires : goal.owner_of-owner-requires
-owner_of-owner-requires c =
+pub owner_of-requires : goal.owner_of-requires
+owner_of-requires c =
     let gone = passed _ _ _ _ _ c.refusal-n.ensures c.if-n-gt0.false in
     (good_lengths _ gone.lendable.sheet).all_farms
 
@@ -45,13 +44,13 @@ returns-in_default c =
     let gone = passed _ _ _ _ _ c.refusal-n.ensures c.if-n-gt0.false in
     let long : length c.args.t.now ≡ table_size = search rules in
     refused_as _ _ 6 _ _ c.refused-in_default.ensures
-    (row_unknown _ _ _ _ gone long (bytes_from c.args.row.0 c.args.input.now) c.args.row.0 (λ k. bytes k c.args.input.now) refl (sym c.owner_of-owner.ensures ∙ c.in_default.is))
+    (row_unknown _ _ _ _ gone long (bytes_from c.args.row.0 c.args.input.now) c.args.row.0 (λ k. bytes k c.args.input.now) refl (sym c.owner_of.ensures ∙ c.in_default.is))
 
 pub is_open-requires : goal.is_open-requires
 is_open-requires c =
     let gone = passed _ _ _ _ _ c.refusal-n.ensures c.if-n-gt0.false in
     let long : length c.args.t.now ≡ table_size = search rules in
-    let own = owned _ _ _ _ _ _ c.owner_of-owner.ensures c.in-Seat.is c.wide-seat.ensures in
+    let own = owned _ _ _ _ _ _ c.owner_of.ensures c.in-Some.is c.wide-seat.ensures in
     let seated = owner_seat _ _ _ _ own in
     let ready = ready_of _ _ _ _ gone long _ seated.farm_within in
     (ready_below ready, long)
@@ -60,15 +59,15 @@ pub returns-then-not-is_open : goal.returns-then-not-is_open
 returns-then-not-is_open c =
     let gone = passed _ _ _ _ _ c.refusal-n.ensures c.if-n-gt0.false in
     let long : length c.args.t.now ≡ table_size = search rules in
-    let own = owned _ _ _ _ _ _ c.owner_of-owner.ensures c.in-Seat.is c.wide-seat.ensures in
+    let own = owned _ _ _ _ _ _ c.owner_of.ensures c.in-Some.is c.wide-seat.ensures in
     refused_as _ _ 6 _ _ c.refused-then-not-is_open.ensures
-    (bytes-closed _ _ _ _ gone long c.args.row.0 c.in-Seat.f.0 c.wide-seat.result c.args.input.now own (sym c.is_open.ensures ∙ c.if-not-is_open.true))
+    (bytes-closed _ _ _ _ gone long c.args.row.0 c.in-Some.f.0 c.wide-seat.result c.args.input.now own (sym c.is_open.ensures ∙ c.if-not-is_open.true))
 
 pub is_waiting-requires : goal.is_waiting-requires
 is_waiting-requires c =
     let gone = passed _ _ _ _ _ c.refusal-n.ensures c.if-n-gt0.false in
     let long : length c.args.t.now ≡ table_size = search rules in
-    let own = owned _ _ _ _ _ _ c.owner_of-owner.ensures c.in-Seat.is c.wide-seat.ensures in
+    let own = owned _ _ _ _ _ _ c.owner_of.ensures c.in-Some.is c.wide-seat.ensures in
     let seated = owner_seat _ _ _ _ own in
     let ready = ready_of _ _ _ _ gone long _ seated.farm_within in
     (ready_below ready, long)
@@ -77,16 +76,16 @@ pub returns-then-is_waiting : goal.returns-then-is_waiting
 returns-then-is_waiting c =
     let gone = passed _ _ _ _ _ c.refusal-n.ensures c.if-n-gt0.false in
     let long : length c.args.t.now ≡ table_size = search rules in
-    let own = owned _ _ _ _ _ _ c.owner_of-owner.ensures c.in-Seat.is c.wide-seat.ensures in
+    let own = owned _ _ _ _ _ _ c.owner_of.ensures c.in-Some.is c.wide-seat.ensures in
     refused_as _ _ 7 _ _ c.refused-then-is_waiting.ensures
-    (bytes-waits _ _ _ _ gone long c.args.row.0 c.in-Seat.f.0 c.wide-seat.result c.args.input.now own (sym c.is_waiting.ensures ∙ c.if-is_waiting.true))
+    (bytes-waits _ _ _ _ gone long c.args.row.0 c.in-Some.f.0 c.wide-seat.result c.args.input.now own (sym c.is_waiting.ensures ∙ c.if-is_waiting.true))
 
 pub take-requires : goal.take-requires
 unfolding least_output
 take-requires c =
     let gone = passed _ _ _ _ _ c.refusal-n.ensures c.if-n-gt0.false in
     let long : length c.args.t.now ≡ table_size = search rules in
-    let own = owned _ _ _ _ _ _ c.owner_of-owner.ensures c.in-Seat.is c.wide-seat.ensures in
+    let own = owned _ _ _ _ _ _ c.owner_of.ensures c.in-Some.is c.wide-seat.ensures in
     let seated = owner_seat _ _ _ _ own in
     let ready = ready_of _ _ _ _ gone long _ seated.farm_within in
     (ready, seated.seat_within, sym c.is_waiting.ensures ∙ c.if-is_waiting.false, gone.lendable.assembling, gone.lendable.output)
@@ -95,6 +94,6 @@ pub returns : goal.returns
 returns c =
     let gone = passed _ _ _ _ _ c.refusal-n.ensures c.if-n-gt0.false in
     let long : length c.args.t.now ≡ table_size = search rules in
-    let own = owned _ _ _ _ _ _ c.owner_of-owner.ensures c.in-Seat.is c.wide-seat.ensures in
-    bytes-served _ _ _ _ gone long c.args.row.0 c.in-Seat.f.0 c.wide-seat.result c.args.input.now own
+    let own = owned _ _ _ _ _ _ c.owner_of.ensures c.in-Some.is c.wide-seat.ensures in
+    bytes-served _ _ _ _ gone long c.args.row.0 c.in-Some.f.0 c.wide-seat.result c.args.input.now own
     _ _ _ _ (sym c.is_open.ensures ∙ c.if-not-is_open.false) (sym c.is_waiting.ensures ∙ c.if-is_waiting.false) c.take.ensures

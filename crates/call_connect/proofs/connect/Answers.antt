@@ -32,17 +32,17 @@ returns-then-not-has_farm c = refused_as _ _ 5 _ _ c.refused-then-not-has_farm.e
 pub site_of-site-requires : goal.site_of-site-requires
 site_of-site-requires c = ((gate_passes _ _ _ _ (sym c.refusal-n.ensures ∙ omega (arith, c.if-n-gt0.false))).lendable.sheet, ltb-true _ _ (sym c.has_farm.ensures ∙ c.if-not-has_farm.false))
 
-pub connect_at-found-requires : goal.connect_at-found-requires
-connect_at-found-requires c = (ready_below (ready_of _ _ _ _ (gate_passes _ _ _ _ (sym c.refusal-n.ensures ∙ omega (arith, c.if-n-gt0.false))) (search rules) _ (ltb-true _ _ (sym c.has_farm.ensures ∙ c.if-not-has_farm.false))), search rules, subst (λ (k : ℕ). k ≤ seats) (sym (ap (λ (k : ℕ). k + 1) c.wide-rows.ensures)) (sited_few _ _ _ c.site_of-site.ensures), (ready_of _ _ _ _ (gate_passes _ _ _ _ (sym c.refusal-n.ensures ∙ omega (arith, c.if-n-gt0.false))) (search rules) _ (ltb-true _ _ (sym c.has_farm.ensures ∙ c.if-not-has_farm.false))).whole)
+pub connect_at-requires : goal.connect_at-requires
+connect_at-requires c = (ready_below (ready_of _ _ _ _ (gate_passes _ _ _ _ (sym c.refusal-n.ensures ∙ omega (arith, c.if-n-gt0.false))) (search rules) _ (ltb-true _ _ (sym c.has_farm.ensures ∙ c.if-not-has_farm.false))), search rules, subst (λ (k : ℕ). k ≤ seats) (sym (ap (λ (k : ℕ). k + 1) c.wide-rows.ensures)) (sited_few _ _ _ c.site_of-site.ensures), (ready_of _ _ _ _ (gate_passes _ _ _ _ (sym c.refusal-n.ensures ∙ omega (arith, c.if-n-gt0.false))) (search rules) _ (ltb-true _ _ (sym c.has_farm.ensures ∙ c.if-not-has_farm.false))).whole)
 
 pub returns-in_default : goal.returns-in_default
-returns-in_default c = connect-refused _ _ _ _ (gate_passes _ _ _ _ (sym c.refusal-n.ensures ∙ omega (arith, c.if-n-gt0.false))) (search rules) _ _ _ _ (ltb-true _ _ (sym c.has_farm.ensures ∙ c.if-not-has_farm.false)) (ap (λ (k : ℕ). k + 1) c.wide-rows.ensures ∙ sited_rows _ _ _ c.site_of-site.ensures) c.connect_at-found.ensures _ c.in_default.is c.refused-in_default.ensures
+returns-in_default c = connect-refused _ _ _ _ (gate_passes _ _ _ _ (sym c.refusal-n.ensures ∙ omega (arith, c.if-n-gt0.false))) (search rules) _ _ _ _ (ltb-true _ _ (sym c.has_farm.ensures ∙ c.if-not-has_farm.false)) (ap (λ (k : ℕ). k + 1) c.wide-rows.ensures ∙ sited_rows _ _ _ c.site_of-site.ensures) c.connect_at.ensures _ c.in_default.is c.refused-in_default.ensures
 
 pub overflow_add-row : goal.overflow_add-row
-overflow_add-row c = let k : c.site_of-site.result.first + c.in-At.seat < most_rows = (sited_row _ _ _ c.site_of-site.ensures _ (subst (λ (k : ℕ). c.in-At.seat < k) (ap (λ (k : ℕ). k + 1) c.wide-rows.ensures) (connected-below _ _ _ _ (subst (λ (k : ℕ). k ≤ seats) (sym (ap (λ (k : ℕ). k + 1) c.wide-rows.ensures)) (sited_few _ _ _ c.site_of-site.ensures)) c.connect_at-found.ensures.connected _ c.in-At.is))) in omega (arith, k, c.wide.ensures)
+overflow_add-row c = let k : c.site_of-site.result.first + c.in-Some.seat < most_rows = (sited_row _ _ _ c.site_of-site.ensures _ (subst (λ (k : ℕ). c.in-Some.seat < k) (ap (λ (k : ℕ). k + 1) c.wide-rows.ensures) (connected-below _ _ _ _ (subst (λ (k : ℕ). k ≤ seats) (sym (ap (λ (k : ℕ). k + 1) c.wide-rows.ensures)) (sited_few _ _ _ c.site_of-site.ensures)) c.connect_at.ensures.connected _ c.in-Some.is))) in omega (arith, k, c.wide.ensures)
 
 pub overflow_cast-row : goal.overflow_cast-row
-overflow_cast-row c = let k : c.site_of-site.result.first + c.in-At.seat < most_rows = (sited_row _ _ _ c.site_of-site.ensures _ (subst (λ (k : ℕ). c.in-At.seat < k) (ap (λ (k : ℕ). k + 1) c.wide-rows.ensures) (connected-below _ _ _ _ (subst (λ (k : ℕ). k ≤ seats) (sym (ap (λ (k : ℕ). k + 1) c.wide-rows.ensures)) (sited_few _ _ _ c.site_of-site.ensures)) c.connect_at-found.ensures.connected _ c.in-At.is))) in omega (arith, k, c.wide.ensures)
+overflow_cast-row c = let k : c.site_of-site.result.first + c.in-Some.seat < most_rows = (sited_row _ _ _ c.site_of-site.ensures _ (subst (λ (k : ℕ). c.in-Some.seat < k) (ap (λ (k : ℕ). k + 1) c.wide-rows.ensures) (connected-below _ _ _ _ (subst (λ (k : ℕ). k ≤ seats) (sym (ap (λ (k : ℕ). k + 1) c.wide-rows.ensures)) (sited_few _ _ _ c.site_of-site.ensures)) c.connect_at.ensures.connected _ c.in-Some.is))) in omega (arith, k, c.wide.ensures)
 
 pub finish_empty-requires : goal.finish_empty-requires
 unfolding least_output
@@ -53,6 +53,6 @@ returns c =
     connect-served _ _ _ _ (gate_passes _ _ _ _ (sym c.refusal-n.ensures ∙ omega (arith, c.if-n-gt0.false))) (search rules) _ _ _ _
     (ltb-true _ _ (sym c.has_farm.ensures ∙ c.if-not-has_farm.false))
     (ap (λ (k : ℕ). k + 1) c.wide-rows.ensures ∙ sited_rows _ _ _ c.site_of-site.ensures)
-    c.connect_at-found.ensures _ _ _ _ _ c.in-At.is
-    (ap (λ (k : ℕ). k + c.in-At.seat) (c.wide.ensures ∙ sited_first _ _ _ c.site_of-site.ensures))
+    c.connect_at.ensures _ _ _ _ _ c.in-Some.is
+    (ap (λ (k : ℕ). k + c.in-Some.seat) (c.wide.ensures ∙ sited_first _ _ _ c.site_of-site.ensures))
     c.finish_empty.ensures.value c.finish_empty.ensures.wrote

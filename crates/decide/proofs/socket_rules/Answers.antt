@@ -12,13 +12,13 @@ use Rattle.decide.proofs.socket_rules.Goals as goal
 pub overflow_cast-result : goal.overflow_cast-result
 overflow_cast-result c =
     let s = c.args in
-    let k = found_below (active_as s.address) 0 (farm_of s.b.now).rows _ (sym c.holder-h.ensures ∙ c.in-At.is) in
+    let k = found_below (active_as s.address) 0 (farm_of s.b.now).rows _ (sym c.holder.ensures ∙ c.in-Some.is) in
     omega (arith, k, nine s.b.now)
 
-pub returns-in-At : goal.returns-in-At
+pub returns-in-Some : goal.returns-in-Some
 unfolding socket_rules
-returns-in-At c = sym (ap (by_holder (site_sheet c.args.site) (farm_of c.args.b.now).rows) (sym c.holder-h.ensures ∙ c.in-At.is))
+returns-in-Some c = sym (ap (by_holder (site_sheet c.args.site) (farm_of c.args.b.now).rows) (sym c.holder.ensures ∙ c.in-Some.is))
 
-pub returns-in-Nothing : goal.returns-in-Nothing
+pub returns-in-None : goal.returns-in-None
 unfolding socket_rules
-returns-in-Nothing c = c.by_places.ensures ∙ sym (ap (by_holder (site_sheet c.args.site) (farm_of c.args.b.now).rows) (sym c.holder-h.ensures ∙ c.in-Nothing.is))
+returns-in-None c = c.by_places.ensures ∙ sym (ap (by_holder (site_sheet c.args.site) (farm_of c.args.b.now).rows) (sym c.holder.ensures ∙ c.in-None.is))

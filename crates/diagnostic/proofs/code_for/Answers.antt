@@ -12,10 +12,10 @@ pub returns-in_default : goal.returns-in_default
 returns-in_default c = target_nobody c.args.s.now c.args.f.0 c.args.target (sym c.find_target.ensures ∙ c.in_default.is)
 
 pub returns-then-owner-f : goal.returns-then-owner-f
-returns-then-owner-f c = target_other c.args.s.now c.args.f.0 c.args.target (sym c.find_target.ensures ∙ c.in-Is.is) c.if-owner-f.true
+returns-then-owner-f c = target_other c.args.s.now c.args.f.0 c.args.target (sym c.find_target.ensures ∙ c.in-Some.is) c.if-owner-f.true
 
 pub returns-then-k-eq-REACHABLE : goal.returns-then-k-eq-REACHABLE
-returns-then-k-eq-REACHABLE c = target-reachable c.args.s.now c.args.f.0 c.args.target (sym c.find_target.ensures ∙ c.in-Is.is) c.if-owner-f.false c.if-k-eq-REACHABLE.true
+returns-then-k-eq-REACHABLE c = target-reachable c.args.s.now c.args.f.0 c.args.target (sym c.find_target.ensures ∙ c.in-Some.is) c.if-owner-f.false c.if-k-eq-REACHABLE.true
 
 pub returns : goal.returns
-returns c = target-unreachable c.args.s.now c.args.f.0 c.args.target (sym c.find_target.ensures ∙ c.in-Is.is) c.if-owner-f.false c.if-k-eq-REACHABLE.false
+returns c = target-unreachable c.args.s.now c.args.f.0 c.args.target (sym c.find_target.ensures ∙ c.in-Some.is) c.if-owner-f.false c.if-k-eq-REACHABLE.false

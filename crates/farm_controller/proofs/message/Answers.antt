@@ -1,8 +1,8 @@
 -- `message` meets its contract.
 -- Assumes nothing.
+use Rattle.std.proofs.Common.{None}
 use mathlib.Core.Path.{sym, ◌∙◌}
 use native.Mathlib.Omega.{arith}
-use Rattle.octets.specs.declared.Found.TheVariants.{Nothing}
 use Rattle.model.specs.FarmSheet.{FarmSheet, farm_sheet}
 use Rattle.model.specs.Row.{active_as}
 use Rattle.table.specs.Block.{farm_of}
@@ -30,11 +30,11 @@ returns-in_default c = let a = c.args in
     let farm = farm_of a.b.now in
     let own : FarmSheet = farm_sheet a.s.now a.f.0 in
     messaged-refused a.s.now a.f.0 farm a.p.now a.from a.to a.user.now 10
-    (λ rooms. for_tester own (record { farm = farm; rooms = rooms }) a.from a.to a.user.now (sym c.size_fits.ensures ∙ c.if-not-size_fits.false) (sym c.is_target.ensures ∙ c.if-not-is_target.false) Nothing (sym c.holder-holder.ensures ∙ c.in_default.is)) c.requires.2
+    (λ rooms. for_tester own (record { farm = farm; rooms = rooms }) a.from a.to a.user.now (sym c.size_fits.ensures ∙ c.if-not-size_fits.false) (sym c.is_target.ensures ∙ c.if-not-is_target.false) None (sym c.holder.ensures ∙ c.in_default.is)) c.requires.2
 
 pub say-requires : goal.say-requires
 say-requires c = let a = c.args in
-    let k = found_below (active_as a.to) 0 (farm_of a.b.now).rows _ (sym c.holder-holder.ensures ∙ c.in-At.is) in
+    let k = found_below (active_as a.to) 0 (farm_of a.b.now).rows _ (sym c.holder.ensures ∙ c.in-Some.is) in
     (omega (arith, k, nine a.b.now), sited_fit a.s.now a.f.0 a.site c.requires.1, c.requires.2)
 
 pub returns : goal.returns
@@ -42,4 +42,4 @@ returns c = let a = c.args in
     let farm = farm_of a.b.now in
     let own : FarmSheet = farm_sheet a.s.now a.f.0 in
     messaged-said a.s.now a.f.0 farm a.p.now a.from a.to a.user.now a.site c.requires.1 _ _
-    (λ rooms. for_tester own (record { farm = farm; rooms = rooms }) a.from a.to a.user.now (sym c.size_fits.ensures ∙ c.if-not-size_fits.false) (sym c.is_target.ensures ∙ c.if-not-is_target.false) _ (sym c.holder-holder.ensures ∙ c.in-At.is)) c.say.ensures
+    (λ rooms. for_tester own (record { farm = farm; rooms = rooms }) a.from a.to a.user.now (sym c.size_fits.ensures ∙ c.if-not-size_fits.false) (sym c.is_target.ensures ∙ c.if-not-is_target.false) _ (sym c.holder.ensures ∙ c.in-Some.is)) c.say.ensures

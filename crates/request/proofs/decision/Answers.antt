@@ -22,11 +22,11 @@ returns-in_default c = decide_nobody c.args.s.now c.args.f.0 (farm_of c.args.b.n
 
 pub returns-then-not-ours : goal.returns-then-not-ours
 returns-then-not-ours c =
-    decide_other c.args.s.now c.args.f.0 (farm_of c.args.b.now).rows c.args.seat c.args.q (sym c.find_tester.ensures ∙ c.in-Is.is) (ne_eqb _ _ c.if-not-ours.true)
+    decide_other c.args.s.now c.args.f.0 (farm_of c.args.b.now).rows c.args.seat c.args.q (sym c.find_tester.ensures ∙ c.in-Some.is) (ne_eqb _ _ c.if-not-ours.true)
 
 pub returns-then-not-right_type : goal.returns-then-not-right_type
 returns-then-not-right_type c =
-    decide_type c.args.s.now c.args.f.0 (farm_of c.args.b.now).rows c.args.seat c.args.q (sym c.find_tester.ensures ∙ c.in-Is.is)
+    decide_type c.args.s.now c.args.f.0 (farm_of c.args.b.now).rows c.args.seat c.args.q (sym c.find_tester.ensures ∙ c.in-Some.is)
     (eq-eqb _ _ (omega arith)) (lt-leb _ _ c.if-not-right_type.true)
 
 pub returns : goal.returns
@@ -34,5 +34,5 @@ returns c =
     let rows : List Row = (farm_of c.args.b.now).rows in
     c.by_state.ensures
     ∙ state_same (site_sheet c.args.site) (farm_sheet c.args.s.now c.args.f.0) (sited_same _ _ _ c.requires.0) rows c.args.q.address (row_at rows c.args.seat).state
-    ∙ decide_state c.args.s.now c.args.f.0 rows c.args.seat c.args.q (sym c.find_tester.ensures ∙ c.in-Is.is)
+    ∙ decide_state c.args.s.now c.args.f.0 rows c.args.seat c.args.q (sym c.find_tester.ensures ∙ c.in-Some.is)
     (eq-eqb _ _ c.if-not-ours.false) (le-leb _ _ c.if-not-right_type.false)

@@ -5,11 +5,11 @@ use mathlib.Core.Path.{sym, ap, ◌∙◌}
 use Rattle.model.specs.FarmSheet.{tester_by}
 use Rattle.row_tests.proofs.is_tester.Goals as goal
 
-pub find_tester-found-requires : goal.find_tester-found-requires
-find_tester-found-requires c = (good_lengths _ c.requires).whole
+pub find_tester-requires : goal.find_tester-requires
+find_tester-requires c = (good_lengths _ c.requires).whole
 
 pub returns-in_default : goal.returns-in_default
-returns-in_default c = sym (ap (tester_by c.args.f.0) (sym c.find_tester-found.ensures ∙ c.in_default.is))
+returns-in_default c = sym (ap (tester_by c.args.f.0) (sym c.find_tester.ensures ∙ c.in_default.is))
 
 pub returns : goal.returns
-returns c = sym (ap (tester_by c.args.f.0) (sym c.find_tester-found.ensures ∙ c.in-Is.is))
+returns c = sym (ap (tester_by c.args.f.0) (sym c.find_tester.ensures ∙ c.in-Some.is))

@@ -1,13 +1,13 @@
 -- `after_eighth` meets its contract: a header that passes goes on with its payload, a wrong one ends the call.
 -- Assumes nothing.
+use Rattle.std.proofs.Common.{Result, Ok}
+use Rattle.kinds.specs.declared.Fault.{Fault}
 use Prim.Native.Nat.{ℕ, ◌-◌}
 use mathlib.Core.Path.{◌≡◌, sym, ap, ◌∙◌}
 use mathlib.Core.List.{List}
 use native.Mathlib.Omega.{arith}
 use lib.ListN.{length, take, drop, length-take, length-drop}
 use lib.Seq.{take_all}
-use Rattle.kinds.specs.declared.Verdict.{Verdict}
-use Rattle.kinds.specs.declared.Verdict.TheVariants.{Passes}
 use Rattle.kinds.specs.declared.Place.TheVariants.{Reading}
 use Rattle.wire.specs.declared.header.Header.{Header as Head}
 use Rattle.wire.specs.Header.{header_at, verdict_of}
@@ -19,12 +19,12 @@ use Rattle.stream.proofs.RunLaws.{takes_few}
 use Rattle.stream.proofs.after_eighth.Goals as goal
 
 -- in the arm of a header that passes
-passes : (head : List ℕ) (h : Head) (v : Verdict) → h ≡ header_at head 0 → v ≡ verdict_of h → v ≡ Passes → verdict_of (header_at head 0) ≡ Passes
+passes : (head : List ℕ) (h : Head) (v : Result Unit Fault) → h ≡ header_at head 0 → v ≡ verdict_of h → v ≡ Ok tt → verdict_of (header_at head 0) ≡ Ok tt
 passes head h v e f is = sym (ap verdict_of e) ∙ sym f ∙ is
 
 pub take_reading-requires : goal.take_reading-requires
 take_reading-requires c =
-    let v = passes c.args.head c.read.result c.judge.result c.read.ensures c.judge.ensures c.in-Passes.is in
+    let v = passes c.args.head c.read.result c.judge.result c.read.ensures c.judge.ensures c.in-Ok.is in
     (c.requires.0, (passes-some (header_at c.args.head 0) v, v))
 
 pub later-requires : goal.later-requires
@@ -40,8 +40,8 @@ later-requires c =
       length-drop a.k a.input.now,
     )
 
-pub returns-in-Passes : goal.returns-in-Passes
-returns-in-Passes c =
+pub returns-in-Ok : goal.returns-in-Ok
+returns-in-Ok c =
     let a = c.args in
     let w = c.take_reading in
     let rest : List ℕ = drop a.k a.input.now in
@@ -49,12 +49,12 @@ returns-in-Passes c =
     ∙ ap (further a.k) w.ensures
     ∙ ap (λ (l : List ℕ). further a.k (takes (stream_of (Reading 0) a.head a.room.now) l))
     (take_all (length a.input.now - a.k) rest (omega (arith, length-drop a.k a.input.now)))
-    ∙ ap (λ (v : Verdict). takes_after a.k (judged v a.head a.room.now) (λ t. takes t rest)) (sym (passes c.args.head c.read.result c.judge.result c.read.ensures c.judge.ensures c.in-Passes.is))
+    ∙ ap (λ (v : Result Unit Fault). takes_after a.k (judged v a.head a.room.now) (λ t. takes t rest)) (sym (passes c.args.head c.read.result c.judge.result c.read.ensures c.judge.ensures c.in-Ok.is))
 
-pub returns-in-Wrong : goal.returns-in-Wrong
-returns-in-Wrong c =
+pub returns-in-Err : goal.returns-in-Err
+returns-in-Err c =
     let a = c.args in
     let rest : List ℕ = drop a.k a.input.now in
     c.after_wrong.ensures a.room.now
-    ∙ ap (λ (v : Verdict). takes_after a.k (judged v a.head a.room.now) (λ t. takes t rest))
-    (sym c.in-Wrong.is ∙ c.judge.ensures ∙ ap verdict_of c.read.ensures)
+    ∙ ap (λ (v : Result Unit Fault). takes_after a.k (judged v a.head a.room.now) (λ t. takes t rest))
+    (sym c.in-Err.is ∙ c.judge.ensures ∙ ap verdict_of c.read.ensures)
