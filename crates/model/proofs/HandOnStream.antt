@@ -138,7 +138,7 @@ header_front hd rest l =
 
 -- no message is whole where the header is judged wrong
 wrong-not : (k : ℕ) (m : List ℕ) (fault : Fault) → verdict_of (header_at m 0) ≡ Err fault → WholeOf k m → ⊥
-wrong-not k m fault e w = let p : verdict_of (header_at m 0) ≡ Ok tt = w.passes in let z : ◌≡◌ {A = ℕ} 0 1 = cc in omega arith
+wrong-not k m fault e w = let p : verdict_of (header_at m 0) ≡ (Ok tt) = w.passes in let z : ◌≡◌ {A = ℕ} 0 1 = cc in omega arith
 
 -- an end of the call that is no finished message, where none is whole
 no_message : (k : ℕ) (m : List ℕ) (e : Event) (s : Stream) → (WholeOf k m → ⊥) → ((kind size : ℕ) → e ≡ finished kind size → ⊥) → Ends k m e s
@@ -188,7 +188,7 @@ header_behind hd rest l = drop_at hd rest header_size l
 -- when the eight bytes are in
 after-ends : (k : ℕ) → is_stored k ≡ true → (hd room rest : List ℕ) (v : Result Unit Fault) → length hd ≡ header_size → most_payload ≤ length room → verdict_of (header_at hd 0) ≡ v
     → Ends k (hd ++ rest) (takes_by (judged v hd room) (λ t. takes t rest)).event (takes_by (judged v hd room) (λ t. takes t rest)).stream
-after-ends k st hd room rest Ok tt l r e =
+after-ends k st hd room rest (Ok tt) l r e =
     let both : Ends k (hd ++ rest) (takes (stream_of (Reading 0) hd room) rest).event (takes (stream_of (Reading 0) hd room) rest).stream =
     read_ends k st (hd ++ rest) hd room rest 0 (header_front hd rest l) (omega (arith, length-append hd rest)) (header_behind hd rest l) e
     (passes-some (header_at hd 0) e) r in
@@ -217,7 +217,7 @@ stream-ends k st (Reading n) head room input l r h =
     (header_behind head (take n room ++ input) l) h.1 h.0 r)
 stream-ends k st (Skipping n) head room input l r h =
     no_message k (head ++ input) _ _
-    (λ w. let q : verdict_of (header_at head 0) ≡ Ok tt = ap verdict_of (sym (header_front head input l)) ∙ w.passes in judged_wrong q h.1)
+    (λ w. let q : verdict_of (header_at head 0) ≡ (Ok tt) = ap verdict_of (sym (header_front head input l)) ∙ w.passes in judged_wrong q h.1)
     (skip_event n head room input)
   where
     judged_wrong : verdict_of (header_at head 0) ≡ Ok tt

@@ -59,7 +59,7 @@ passes-all h e =
     never_passes fault e = absurd (let z : ◌≡◌ {A = ℕ} 0 1 = cc in omega arith)
 
     by : (p k m l : Bool)
-        → unless p (Err Pattern) (unless k (Err UnknownType) (unless m (Err TooLong) (unless l (Err WrongLength) Ok tt))) ≡ Ok tt
+        → unless p (Err Pattern) (unless k (Err UnknownType) (unless m (Err TooLong) (unless l (Err WrongLength) (Ok tt)))) ≡ Ok tt
         → (p ≡ true) × (k ≡ true) × (m ≡ true) × (l ≡ true)
     by false k m l f = never_passes Pattern f
     by true false m l f = never_passes UnknownType f

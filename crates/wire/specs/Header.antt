@@ -35,7 +35,7 @@ verdict_of h =
     unless (right_pattern h.version h.inverse) (Err Pattern)
     (unless (known_on tcp h.kind) (Err UnknownType)
     (unless (leb h.length most_payload) (Err TooLong)
-    (unless (length_fits tcp h.kind h.length) (Err WrongLength) Ok tt)))
+    (unless (length_fits tcp h.kind h.length) (Err WrongLength) (Ok tt))))
 
 -- the paper's number for each fault; "NACK 03 (memory) isn't given; each row has its own room"
 abbrev pub code_of : Fault → ℕ
