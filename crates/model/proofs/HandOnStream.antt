@@ -19,7 +19,7 @@ use Rattle.kinds.specs.declared.Place.{Place}
 use Rattle.kinds.specs.declared.Place.TheVariants.{Header, Reading, Skipping}
 use Rattle.wire.specs.declared.header.Header.{Header as Head}
 use Rattle.wire.proofs.HeaderLaws.{passes-all}
-use Rattle.wire.specs.Header.{header_size, header_at, most_payload, verdict_of}
+use Rattle.wire.specs.Header.{header_size, header_at, most_payload, verdict_of, passed}
 use Rattle.model.specs.Stream.{Stream, stream_of, Event, input_ended, finished, stored_in, is_stored, judged, feed, Taken, takes_by, takes}
 use Rattle.model.specs.Rule.{PossibleAt}
 use Rattle.model.specs.HandsOn.{in_hand_bytes, WholeOf, payload_of}
@@ -138,7 +138,7 @@ header_front hd rest l =
 
 -- no message is whole where the header is judged wrong
 wrong-not : (k : ℕ) (m : List ℕ) (fault : Fault) → verdict_of (header_at m 0) ≡ Err fault → WholeOf k m → ⊥
-wrong-not k m fault e w = let p : verdict_of (header_at m 0) ≡ (Ok tt) = w.passes in let z : ◌≡◌ {A = ℕ} 0 1 = cc in omega arith
+wrong-not k m fault e w = let p : verdict_of (header_at m 0) ≡ passed = w.passes in let z : ◌≡◌ {A = ℕ} 0 1 = cc in omega arith
 
 -- an end of the call that is no finished message, where none is whole
 no_message : (k : ℕ) (m : List ℕ) (e : Event) (s : Stream) → (WholeOf k m → ⊥) → ((kind size : ℕ) → e ≡ finished kind size → ⊥) → Ends k m e s
@@ -146,7 +146,7 @@ no_message k m e s n u = record { finishes = λ w. absurd (n w); stores = λ w. 
 
 -- while a payload is read: m is the header, the part in hand, and the input
 module _ (k : ℕ) (stored : is_stored k ≡ true) (m hd room input : List ℕ) (n : ℕ) (front : header_at m 0 ≡ header_at hd 0) (long : length m ≡ header_size + (n + length input))
-    (behind : drop header_size m ≡ take n room ++ input) (p : verdict_of (header_at hd 0) ≡ Ok tt) (h : n < (header_at hd 0).length) (r : most_payload ≤ length room) where
+    (behind : drop header_size m ≡ take n room ++ input) (p : verdict_of (header_at hd 0) ≡ passed) (h : n < (header_at hd 0).length) (r : most_payload ≤ length room) where
   read_finishes : WholeOf k m → (takes (stream_of (Reading n) hd room) input).event ≡ finished k (header_at m 0).length
   read_finishes w =
       let size : (header_at m 0).length ≡ (header_at hd 0).length = ap (λ (x : Head). x.length) front in
@@ -217,10 +217,10 @@ stream-ends k st (Reading n) head room input l r h =
     (header_behind head (take n room ++ input) l) h.1 h.0 r)
 stream-ends k st (Skipping n) head room input l r h =
     no_message k (head ++ input) _ _
-    (λ w. let q : verdict_of (header_at head 0) ≡ (Ok tt) = ap verdict_of (sym (header_front head input l)) ∙ w.passes in judged_wrong q h.1)
+    (λ w. let q : verdict_of (header_at head 0) ≡ passed = ap verdict_of (sym (header_front head input l)) ∙ w.passes in judged_wrong q h.1)
     (skip_event n head room input)
   where
-    judged_wrong : verdict_of (header_at head 0) ≡ Ok tt
+    judged_wrong : verdict_of (header_at head 0) ≡ passed
         → (verdict_of (header_at head 0) ≡ Err UnknownType) ⊎ (verdict_of (header_at head 0) ≡ Err TooLong) → ⊥
     judged_wrong q (inl e) = let z : ◌≡◌ {A = ℕ} 0 1 = cc in omega arith
     judged_wrong q (inr e) = let z : ◌≡◌ {A = ℕ} 0 1 = cc in omega arith

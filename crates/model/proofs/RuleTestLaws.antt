@@ -27,7 +27,7 @@ use Rattle.kinds.specs.declared.Place.TheVariants.{Header, Reading, Skipping}
 use Rattle.kinds.specs.declared.Row.{Row}
 use Rattle.kinds.specs.declared.HeadVerdict.{HeadVerdict}
 use Rattle.kinds.specs.declared.HeadVerdict.TheVariants.{Pending, Answer, RunOut}
-use Rattle.wire.specs.Header.{header_size, header_at, verdict_of}
+use Rattle.wire.specs.Header.{header_size, header_at, verdict_of, passed}
 use Rattle.model.specs.FarmSheet.{FarmSheet}
 use Rattle.kinds.specs.Clock.{check_limit}
 use Rattle.model.specs.Row.{boundary, free_row, row_at, is_free, is_open, is_waiting, is_active, active_as, active_as_state, at_limit}
@@ -44,7 +44,7 @@ use Rattle.model.proofs.LineRoom.{none_beyond}
 differ : {P : Type 0} → ◌≡◌ {A = ℕ} 0 1 → P
 differ z = absurd (omega arith)
 
-passes-says : (v : Result Unit Fault) → Says (passes v) (v ≡ Ok tt)
+passes-says : (v : Result Unit Fault) → Says (passes v) (v ≡ passed)
 passes-says (Ok tt) = says-yes refl
 passes-says (Err fault) = says_no (λ e. differ (cc))
 

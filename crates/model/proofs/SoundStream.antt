@@ -20,7 +20,7 @@ use Rattle.kinds.specs.declared.Place.TheVariants.{Header, Reading, Skipping}
 use Rattle.wire.specs.declared.header.Header.{Header as Head}
 use Rattle.types.specs.declared.Kind.{Kind}
 use Rattle.types.specs.Types.{types, tcp, known_on, length_fits, is_of_length}
-use Rattle.wire.specs.Header.{header_size, header_at, verdict_of, closes, right_pattern, most_payload}
+use Rattle.wire.specs.Header.{header_size, header_at, verdict_of, closes, right_pattern, most_payload, passed}
 use Rattle.model.specs.Stream.{Stream, Fed, more, ends, after_wrong, judged, feed_at, feed, takes_by, takes}
 use Rattle.model.specs.Rule.{PossibleAt}
 use Rattle.model.proofs.Cases.{pick_case, unless_case, split}
@@ -49,22 +49,22 @@ unfolding length_fits types all
 never_empty kind = none_of (is_of_length tcp kind 0) fills (fills_not kind) types refl
 
 -- so a header that passes announces a byte at least
-pub passes-some : (h : Head) → verdict_of h ≡ Ok tt → 0 < h.length
+pub passes-some : (h : Head) → verdict_of h ≡ passed → 0 < h.length
 unfolding verdict_of
 passes-some h e =
     split (eqb h.length 0)
     (λ z. absurd (never e z))
     (λ z. omega (arith, eqb-false h.length 0 z))
   where
-    wrong-not : (fault : Fault) → Err fault ≡ Ok tt → ⊥
+    wrong-not : (fault : Fault) → ◌≡◌ {A = Result Unit Fault} (Err fault) passed → ⊥
     wrong-not fault q = let z : ◌≡◌ {A = ℕ} 0 1 = cc in omega arith
 
-    never : verdict_of h ≡ Ok tt → eqb h.length 0 ≡ true → ⊥
+    never : verdict_of h ≡ passed → eqb h.length 0 ≡ true → ⊥
     never q z =
-        unless_case (λ v. v ≡ Ok tt → ⊥) (right_pattern h.version h.inverse) _ _ (λ _. wrong-not Pattern)
-        (λ _. unless_case (λ v. v ≡ Ok tt → ⊥) (known_on tcp h.kind) _ _ (λ _. wrong-not UnknownType)
-        (λ _. unless_case (λ v. v ≡ Ok tt → ⊥) (leb h.length most_payload) _ _ (λ _. wrong-not TooLong)
-        (λ _. unless_case (λ v. v ≡ Ok tt → ⊥) (length_fits tcp h.kind h.length) _ _ (λ _. wrong-not WrongLength)
+        unless_case (λ v. v ≡ passed → ⊥) (right_pattern h.version h.inverse) _ _ (λ _. wrong-not Pattern)
+        (λ _. unless_case (λ v. v ≡ passed → ⊥) (known_on tcp h.kind) _ _ (λ _. wrong-not UnknownType)
+        (λ _. unless_case (λ v. v ≡ passed → ⊥) (leb h.length most_payload) _ _ (λ _. wrong-not TooLong)
+        (λ _. unless_case (λ v. v ≡ passed → ⊥) (length_fits tcp h.kind h.length) _ _ (λ _. wrong-not WrongLength)
         (λ t _. true≢false (sym t ∙ ap (length_fits tcp h.kind) (eqb-true h.length 0 z) ∙ never_empty h.kind)))))
         q
 

@@ -1,7 +1,7 @@
 -- The words of demand 2's last sentence: "A whole diagnostic message that the header rules pass reaches a controller exactly when its
 -- sender is active on that connection and the controller is known, reachable and of that farm." (proofs/HandOn says that it is so.)
 -- Assumes nothing: these are definitions.
-use Rattle.std.specs.Prelude.{ℕ, ◌+◌, ◌≤◌, ◌≡◌, Bool, true, false, List, [], ◌∷◌, ◌++◌, length, get_or, take, Ok}
+use Rattle.std.specs.Prelude.{ℕ, ◌+◌, ◌≤◌, ◌≡◌, Bool, true, false, List, [], ◌∷◌, ◌++◌, length, get_or, take}
 use Rattle.octets.specs.Search.{count_if}
 use Rattle.octets.specs.Parts.{part}
 use Rattle.kinds.specs.declared.Place.{Place}
@@ -10,7 +10,7 @@ use Rattle.kinds.specs.declared.Row.{Row}
 use Rattle.kinds.specs.declared.Item.{Item}
 use Rattle.kinds.specs.declared.Reply.{Reply}
 use Rattle.kinds.specs.declared.Reply.TheVariants.{Nack, Identity, Activation, AliveCheck, Status, PowerMode, Message, Ack, DiagnosticNack, Close, HandOn}
-use Rattle.wire.specs.Header.{header_size, header_at, verdict_of}
+use Rattle.wire.specs.Header.{header_size, header_at, verdict_of, passed}
 use Rattle.payload.specs.Payload.{ends_in}
 use Rattle.model.specs.FarmSheet.{FarmSheet, reachable}
 use Rattle.model.specs.Row.{row_at, active_as}
@@ -28,7 +28,7 @@ in_hand_bytes (Skipping n) head room = head
 -- a whole message of this type, that the header rules pass, stands at the front of these bytes
 pub record WholeOf (kind : ℕ) (m : List ℕ) : Type 0 where
   pub whole : header_size + (header_at m 0).length ≤ length m
-  pub passes : verdict_of (header_at m 0) ≡ Ok tt
+  pub passes : verdict_of (header_at m 0) ≡ passed
   pub is_kind : (header_at m 0).kind ≡ kind
 
 -- "A whole diagnostic message that the header rules pass"

@@ -1,6 +1,6 @@
 -- "A table breaks the rules if: ..": rule 4 for one farm, a field for each rule.
 -- Assumes nothing: these are definitions.
-use Rattle.std.specs.Prelude.{ℕ, ◌-◌, ◌≤◌, ◌<◌, ◌≡◌, true, false, ◌⊎◌, List, [], ◌∷◌, eqb, length, drop, replicate, Ok, Err}
+use Rattle.std.specs.Prelude.{ℕ, ◌-◌, ◌≤◌, ◌<◌, ◌≡◌, true, false, ◌⊎◌, List, [], ◌∷◌, eqb, length, drop, replicate, Err}
 use Prim.{Unit}
 use Rattle.octets.specs.Choice.{one}
 use Rattle.octets.specs.Search.{count_if}
@@ -11,7 +11,7 @@ use Rattle.kinds.specs.declared.Place.TheVariants.{Header, Reading, Skipping}
 use Rattle.kinds.specs.declared.Row.{Row}
 use Rattle.kinds.specs.declared.Fault.TheVariants.{UnknownType, TooLong}
 use Rattle.kinds.specs.declared.HeadVerdict.TheVariants.{Pending}
-use Rattle.wire.specs.Header.{header_size, header_at, verdict_of}
+use Rattle.wire.specs.Header.{header_size, header_at, verdict_of, passed}
 use Rattle.model.specs.FarmSheet.{FarmSheet}
 use Rattle.kinds.specs.Clock.{check_limit}
 use Rattle.model.specs.Row.{boundary, row_at, is_free, is_open, is_waiting, is_active, active_as, at_limit}
@@ -26,7 +26,7 @@ times i line = count_if (eqb i) line
 -- header would be judged wrong, or one being skipped whose header would not get NACK 01 or 02"
 abbrev pub PossibleAt : Place → List ℕ → Type 0
 PossibleAt (Header n) head = n < header_size
-PossibleAt (Reading n) head = (n < (header_at head 0).length) × (verdict_of (header_at head 0) ≡ Ok tt)
+PossibleAt (Reading n) head = (n < (header_at head 0).length) × (verdict_of (header_at head 0) ≡ passed)
 PossibleAt (Skipping n) head =
     (n < (header_at head 0).length) ×
     ((verdict_of (header_at head 0) ≡ Err UnknownType) ⊎ (verdict_of (header_at head 0) ≡ Err TooLong))

@@ -1,6 +1,6 @@
 -- Laws of the verdict on a header.
 -- Assumes nothing.
-use Rattle.std.proofs.Common.{Ok, Err}
+use Rattle.std.proofs.Common.{Result, Err}
 use mathlib.Core.Path.{◌≡◌, refl}
 use mathlib.Core.Bool.{Bool, true, false}
 use Prim.Native.Nat.{ℕ, ◌≤◌}
@@ -14,7 +14,7 @@ use Rattle.kinds.specs.declared.Fault.{Fault}
 use Rattle.kinds.specs.declared.Fault.TheVariants.{Pattern, UnknownType, TooLong, WrongLength}
 use Rattle.wire.specs.declared.header.Header.{Header}
 use Rattle.types.specs.Types.{types, tcp, known_on, length_fits, or_more}
-use Rattle.wire.specs.Header.{verdict_of, everyday, right_pattern, most_payload}
+use Rattle.wire.specs.Header.{verdict_of, everyday, right_pattern, most_payload, passed}
 
 -- the first line of the table allows a diagnostic message of 5 bytes and more
 module _ (n : ℕ) (least : leb 5 n ≡ true) (most : leb n or_more ≡ true) where
@@ -27,7 +27,7 @@ module _ (n : ℕ) (least : leb 5 n ≡ true) (most : leb n or_more ≡ true) wh
   message-fits = rw (least, most)
 
 -- what is tried first passes by the order too
-pub everyday-passes : (h : Header) → right_pattern h.version h.inverse ≡ true → everyday h.kind h.length ≡ true → verdict_of h ≡ Ok tt
+pub everyday-passes : (h : Header) → right_pattern h.version h.inverse ≡ true → everyday h.kind h.length ≡ true → verdict_of h ≡ passed
 unfolding verdict_of
 everyday-passes h p e =
     let k : h.kind ≡ 0x8001 = eqb-true h.kind 0x8001 (both_left (eqb h.kind 0x8001) _ e) in
@@ -46,7 +46,7 @@ pub record Passed (h : Header) : Type 0 where
   pub short : h.length ≤ most_payload
   pub fits : length_fits tcp h.kind h.length ≡ true
 
-pub passes-all : (h : Header) → verdict_of h ≡ Ok tt → Passed h
+pub passes-all : (h : Header) → verdict_of h ≡ passed → Passed h
 unfolding verdict_of
 passes-all h e =
     let t =
@@ -55,11 +55,11 @@ passes-all h e =
     in
     record { pattern = t.0; known = t.1; short = leb-true h.length most_payload t.2; fits = t.3 }
   where
-    never_passes : {A : Type 0} (fault : Fault) → Err fault ≡ Ok tt → A
+    never_passes : {A : Type 0} (fault : Fault) → ◌≡◌ {A = Result Unit Fault} (Err fault) passed → A
     never_passes fault e = absurd (let z : ◌≡◌ {A = ℕ} 0 1 = cc in omega arith)
 
     by : (p k m l : Bool)
-        → unless p (Err Pattern) (unless k (Err UnknownType) (unless m (Err TooLong) (unless l (Err WrongLength) (Ok tt)))) ≡ Ok tt
+        → unless p (Err Pattern) (unless k (Err UnknownType) (unless m (Err TooLong) (unless l (Err WrongLength) passed))) ≡ passed
         → (p ≡ true) × (k ≡ true) × (m ≡ true) × (l ≡ true)
     by false k m l f = never_passes Pattern f
     by true false m l f = never_passes UnknownType f

@@ -28,6 +28,10 @@ most_payload = 2048
 abbrev pub right_pattern : ℕ → ℕ → Bool
 right_pattern version inverse = both (eqb version our_version) (eqb inverse (255 - our_version))
 
+-- a header that passes
+abbrev pub passed : Result Unit Fault
+passed = Ok tt
+
 -- "Judged when all eight are in, in this order: 1. not 03 FC: NACK 00, close; 2. type unknown on this port: NACK 01, skip the
 -- payload; 3. length over 2,048: NACK 02, skip the payload; 4. length wrong for the type: NACK 04, close."
 unfoldable pub verdict_of : Header → Result Unit Fault
@@ -35,7 +39,7 @@ verdict_of h =
     unless (right_pattern h.version h.inverse) (Err Pattern)
     (unless (known_on tcp h.kind) (Err UnknownType)
     (unless (leb h.length most_payload) (Err TooLong)
-    (unless (length_fits tcp h.kind h.length) (Err WrongLength) (Ok tt))))
+    (unless (length_fits tcp h.kind h.length) (Err WrongLength) passed)))
 
 -- the paper's number for each fault; "NACK 03 (memory) isn't given; each row has its own room"
 abbrev pub code_of : Fault → ℕ

@@ -10,7 +10,7 @@ use lib.ListN.{length, take, drop, length-take, length-drop}
 use lib.Seq.{take_all}
 use Rattle.kinds.specs.declared.Place.TheVariants.{Reading}
 use Rattle.wire.specs.declared.header.Header.{Header as Head}
-use Rattle.wire.specs.Header.{header_at, verdict_of}
+use Rattle.wire.specs.Header.{header_at, verdict_of, passed}
 use Rattle.model.specs.Stream.{stream_of, judged, Taken, takes}
 use Rattle.model.proofs.SoundStream.{passes-some}
 use Rattle.stream.specs.declared.Took.{Took}
@@ -19,7 +19,7 @@ use Rattle.stream.proofs.RunLaws.{takes_few}
 use Rattle.stream.proofs.after_eighth.Goals as goal
 
 -- in the arm of a header that passes
-passes : (head : List ℕ) (h : Head) (v : Result Unit Fault) → h ≡ header_at head 0 → v ≡ verdict_of h → v ≡ Ok tt → verdict_of (header_at head 0) ≡ Ok tt
+passes : (head : List ℕ) (h : Head) (v : Result Unit Fault) → h ≡ header_at head 0 → v ≡ verdict_of h → v ≡ passed → verdict_of (header_at head 0) ≡ passed
 passes head h v e f is = sym (ap verdict_of e) ∙ sym f ∙ is
 
 pub take_reading-requires : goal.take_reading-requires
