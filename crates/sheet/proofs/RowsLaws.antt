@@ -1,6 +1,6 @@
 -- Laws of whose row is whose: each row of the sheet is one seat of one farm, and each seat of a farm is one row of the sheet.
 -- Assumes nothing.
-use Rattle.std.proofs.Common.{Some, None}
+use Rattle.std.proofs.Common.{Option, Some, None}
 use mathlib.Core.Path.{◌≡◌, refl, sym, ap, ◌∙◌, subst}
 use mathlib.Core.List.{List}
 use mathlib.Core.Logic.{⊎_elim}
@@ -14,8 +14,10 @@ use Rattle.sheet.specs.Sheet.{farm_count, farm_no, most_quota, most_rows}
 use Rattle.sheet.specs.Rules.{GoodSheet}
 use Rattle.sheet.specs.Rows.{rows_owned, first_row, rows_in, owner_from, owner_of}
 
-same_seat : {f g i j : ℕ} → Some (farm_no f, i) ≡ Some (farm_no g, j) → (f ≡ g) × (i ≡ j)
-same_seat {f} {g} e = let n : farm_no f ≡ farm_no g = cc in (ap (λ (k : FarmNo). k.0) n, cc)
+same_seat : {f g i j : ℕ} → ◌≡◌ {A = Option (FarmNo × ℕ)} (Some (farm_no f, i)) (Some (farm_no g, j)) → (f ≡ g) × (i ≡ j)
+same_seat {f} {g} {i} {j} e =
+    let n : ◌≡◌ {A = FarmNo × ℕ} (farm_no f, i) (farm_no g, j) = cc in
+    (ap (λ (p : FarmNo × ℕ). p.0.0) n, ap (λ (p : FarmNo × ℕ). p.1) n)
 
 module _ (s : List ℕ) where
   pub rows_mono : (f n : ℕ) → f ≤ n → first_row s f ≤ first_row s n
