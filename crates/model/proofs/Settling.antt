@@ -192,17 +192,17 @@ first_stands p d (x ∷ l) s k e =
     later (stands i q h u) = stands (suc i) (omega arith) (omega arith) u
 
 -- where the count is not 0, some member passes
-pub data Some {A : Type 0} (p : A → Bool) (d : A) (l : List A) : Type 0 where
-  some_at : (i : ℕ) → i < length l → p (get_or l i d) ≡ true → Some p d l
+pub data SomePass {A : Type 0} (p : A → Bool) (d : A) (l : List A) : Type 0 where
+  some_at : (i : ℕ) → i < length l → p (get_or l i d) ≡ true → SomePass p d l
 
-pub count-has : {A : Type 0} (p : A → Bool) (d : A) (l : List A) → 1 ≤ count_if p l → Some p d l
+pub count-has : {A : Type 0} (p : A → Bool) (d : A) (l : List A) → 1 ≤ count_if p l → SomePass p d l
 unfolding count_if
 count-has p d [] h = absurd (not-suc-le-zero h)
 count-has p d (x ∷ l) h =
     split (p x) (λ t. some_at 0 (omega arith) t)
     (λ t. let z : one (p x) ≡ 0 = ap one t in later (count-has p d l (omega arith)))
   where
-    later : Some p d l → Some p d (x ∷ l)
+    later : SomePass p d l → SomePass p d (x ∷ l)
     later (some_at i g u) = some_at (suc i) (omega arith) u
 
 -- A check that the rules ask for asks at least one of the farm's rows.
@@ -214,7 +214,7 @@ pub asks-some : (own : FarmSheet) → 1 ≤ own.quota → (rows : List Row) (wan
 unfolding socket_rules
 asks-some own q rows want check = by (first_at (active_as want) 0 rows) refl
   where
-    all : (d : Some is_active free_row rows) → All ≡ check → AsksSome own rows check
+    all : (d : SomePass is_active free_row rows) → All ≡ check → AsksSome own rows check
     all (some_at i h t) e = asks_at i h (rw (← e) t)
 
     that : (s : ℕ) → Stands (active_as want) free_row rows s 0 → One s ≡ check → AsksSome own rows check

@@ -5,7 +5,7 @@ use Prim.Native.Nat.{ℕ, ◌≤◌, ◌<◌}
 use mathlib.Core.Path.{◌≡◌, refl, sym, ap, ap₂, subst, ◌∙◌}
 use mathlib.Core.Bool.{Bool, true, false}
 use mathlib.Core.List.{List, [], ◌∷◌}
-use mathlib.Core.Option.{Option, none, some}
+use mathlib.Core.Option.{Option as Maybe, none, some}
 use native.Mathlib.Omega.{arith}
 use lib.Dec.{eqb, leb, ltb}
 use lib.ListN.{length, get_or, set, take, length-set, get_or-eq_default}
@@ -250,16 +250,16 @@ held_alike h k (gave x) (refused m) a e = absurd e
 held_alike h k (gave x) (gave y) a e = record { farm = e.farm; rooms = e.rooms }
 
 module _ (s : List ℕ) (g : ℕ) where
-  seen_alike : (h k : Held) → HeldAlike h k → (c : Option Made) → Alike (alone_move s g h c) (alone_move s g k c)
+  seen_alike : (h k : Held) → HeldAlike h k → (c : Maybe Made) → Alike (alone_move s g h c) (alone_move s g k c)
   seen_alike h k a c =
       subst (λ (f : Farm). Alike (alone_move s g h c) (alone_move s g (over f k.rooms) c)) a.farm (go c)
     where
-      go : (c : Option Made) → Alike (alone_move s g h c) (alone_move s g (over h.farm k.rooms) c)
+      go : (c : Maybe Made) → Alike (alone_move s g h c) (alone_move s g (over h.farm k.rooms) c)
       go (some m) = alone_by_lem (slot_sheet s g) h.farm h.rooms k.rooms a.rooms m.lent (whose s m.call)
       go none = tick_alike (slot_sheet s g) h.farm h.rooms k.rooms a.rooms
 
   -- WHAT STOOD IN THE BUFFER NEVER MATTERS: a farm alone has the same of the same calls.
-  pub alone_same : (cs : List (Option Made)) (h k : Held) → HeldAlike h k → alone s g h cs ≡ alone s g k cs
+  pub alone_same : (cs : List (Maybe Made)) (h k : Held) → HeldAlike h k → alone s g h cs ≡ alone s g k cs
   unfolding alone
   alone_same [] h k a = refl
   alone_same (c ∷ cs) h k a =
