@@ -40,7 +40,7 @@ use Rattle.lent.specs.Served.{Memory, memory, CallServed, StartServed}
 use Rattle.lent.proofs.ServedLaws.{served-once}
 use Rattle.host.specs.Wrote.{Untouched, HandsNothing, HandsExactly, Waits, RespondsFirst}
 use Rattle.host.specs.Calls.{made, Calls, Began, ticks_of, lost_of, RespondsIn}
-use Rattle.host.specs.Gets.{Got, shares_in, GetsIn, Some}
+use Rattle.host.specs.Gets.{Got, shares_in, GetsIn, Some as Exists}
 use Rattle.host.proofs.OutcomeLaws.{refusal_leaves, did-wrote, zero-done}
 use Rattle.host.proofs.RefusalLaws.{call_rules, start_rules, lent-refusals, lent_start_refusals}
 use Rattle.host.proofs.AnswerLaws.{others_hand_nothing, hands-nothing, hands_exactly, responds_first, decided_responds}
@@ -265,5 +265,5 @@ module _ {s t m t' m' : List ℕ} (b : Began s t m) (b' : Began s t' m') where
           omega (arith, rooms_slots s z.lent.table z.lent.assembling (began_lendable z).sheet (began_lendable z).assembling, i, (began_lendable z).sheet.head.farms_at_most)
 
 -- and the farm does get something of every such history
-pub farm_gets : {s t m : List ℕ} (b : Began s t m) {ms : List Made} {u n : List ℕ} (h : Calls s t m ms u n) (g : ℕ) → g < farm_count s → Some (GetsIn s g h)
+pub farm_gets : {s t m : List ℕ} (b : Began s t m) {ms : List Made} {u n : List ℕ} (h : Calls s t m ms u n) (g : ℕ) → g < farm_count s → Exists (GetsIn s g h)
 farm_gets {s} b h g i = gets_some s g (below b g i) (began_whole b) h

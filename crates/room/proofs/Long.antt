@@ -34,7 +34,7 @@ use Rattle.model.specs.Bytes.{decided_by, requested, to_target, diagnosed, fault
 use Rattle.model.specs.Move.{clock_run, aged, answers, peer_gone, link_gone, ticked}
 use Rattle.model.specs.Rule.{PossibleAt}
 use Rattle.model.proofs.Cases.{pick_case}
-use Rattle.model.proofs.HandOnNone.{said, None, said_append, none_quiet, none-one, none_then, none-closed, none_closings, none-joined, none_left, none-answered, none-settle}
+use Rattle.model.proofs.HandOnNone.{said, None as NoneOf, said_append, none_quiet, none-one, none_then, none-closed, none_closings, none-joined, none_left, none-answered, none-settle}
 use Rattle.model.proofs.SoundRows.{one-small}
 use Rattle.model.proofs.SoundStream.{PossibleIn, takes_well}
 
@@ -46,7 +46,7 @@ longs items = said is_long items
 
 -- none of what a farm does holds lent bytes, or at most one
 abbrev pub Short : Done → Type 0
-Short d = None is_long d
+Short d = NoneOf is_long d
 
 abbrev pub OneLong : Done → Type 0
 OneLong d = longs d.items ≤ 1
