@@ -8,6 +8,7 @@ use native.Mathlib.Omega.{arith}
 use lib.Dec.{ltb}
 use lib.ListN.{length, get_or, set, take, length-map, length-append, get_or-map}
 use lib.Seq.{drop-set-lt, get_or-set_same}
+use Rattle.std.proofs.lemmas.List.{map-append}
 use borrow.Author.Tests.{lt-ltb, le-ltb, ltb-true}
 use Rattle.octets.specs.Choice.{pick, one}
 use Rattle.octets.specs.Numbers.{u16_at}
@@ -109,10 +110,6 @@ none_said p e = ap (λ (n : ℕ). map item_from (parts item_size 1 (min n plan_r
 
 -- ---- a push
 
-map_snoc : {A B : Type 0} (g : A → B) (l : List A) (x : A) → map g (l ++ (x ∷ [])) ≡ map g l ++ (g x ∷ [])
-map_snoc g [] x = refl
-map_snoc g (y ∷ l) x = ap (λ t. g y ∷ t) (map_snoc g l x)
-
 pub pushed_room : (items : List Item) (it : Item) → length items < plan_room → pushed_to items it ≡ items ++ (it ∷ [])
 unfolding pushed_to
 pushed_room items it h = rw (lt-ltb (length items) plan_room h)
@@ -166,11 +163,15 @@ module _ (p q r : List ℕ) (it : Item) (w : length p ≡ plan_size) (h : get_or
       ∙ ap (λ (k : ℕ). parts item_size 1 k p ++ (item_image it ∷ [])) same
       in
       ap (map item_from) all
-      ∙ map_snoc item_from (parts item_size 1 (count_of p) p) (item_image it)
+      ∙ map-append item_from (parts item_size 1 (count_of p) p) (item_image it ∷ [])
       ∙ ap (λ t. items_of p ++ (t ∷ [])) (item_back it)
       ∙ sym (pushed_room (items_of p) it (omega (arith, count-items p)))
 
 -- ---- lists that are pushed to
+
+-- what a plan says after a push, where it is known what it said before
+pub said_more : {p q items : List Item} (it : Item) → length items < plan_room → p ≡ items → q ≡ pushed_to p it → q ≡ items ++ (it ∷ [])
+said_more {items = items} it h e f = f ∙ ap (λ (l : List Item). pushed_to l it) e ∙ pushed_room items it h
 
 pub length_pushed : (items : List Item) (it : Item) → length items < plan_room → length (pushed_to items it) ≡ length items + 1
 length_pushed items it h = ap length (pushed_room items it h) ∙ length-append items (it ∷ [])
