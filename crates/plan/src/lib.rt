@@ -32,8 +32,7 @@ fn item_bytes(it: Item) -> [u8; SIZE]
 {
     let row = it.row;
     let version = it.version;
-    let what = it.reply;
-    match what {
+    match it.reply {
         Reply::Nack(c) => image(row, version, 0, c, 0, 0),
         Reply::Identity => image(row, version, 1, 0, 0, 0),
         Reply::Activation(a, e, c) => image(row, version, 2, c, a, e),
