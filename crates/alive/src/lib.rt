@@ -4,7 +4,6 @@
 ghost use Rattle.std.specs.Prelude.{◌<◌, length, drop};
 ghost use Rattle.model.specs.Farm.{each_seat};
 ghost use Rattle.model.specs.Line.{asked_if, asking, cleared, started, advanced};
-ghost use Rattle.plan.specs.Plan.{PlanOk};
 ghost use Rattle.table.specs.Layout.{seats};
 ghost use Rattle.table.specs.Block.{farm_of, Whole, Holds};
 ghost use Rattle.decide.specs.SiteSheet.{site_sheet};
@@ -12,10 +11,11 @@ ghost use Rattle.closing.specs.Did.{RowsFit, Did};
 
 use closing::say;
 use kinds::{Check, Clock, Decision, Reply, Site};
+use plan::Plan;
 use table::SEATS;
 
-fn ask_if(b: &[u8], p: &mut [u8], site: Site, check: Check, i: usize)
-    requires { (i < seats) × RowsFit site × Whole b.now × PlanOk p.old }
+fn ask_if(b: &[u8], p: &mut Plan, site: Site, check: Check, i: usize)
+    requires { (i < seats) × RowsFit site × Whole b.now }
     ensures { Did p.old b.now p.new (asked_if (site_sheet site) check i (farm_of b.now)) }
 {
     if decide::asks(b, check, i) {
@@ -23,8 +23,8 @@ fn ask_if(b: &[u8], p: &mut [u8], site: Site, check: Check, i: usize)
     }
 }
 
-pub fn ask(b: &[u8], p: &mut [u8], site: Site, check: Check)
-    requires { RowsFit site × Whole b.now × PlanOk p.old }
+pub fn ask(b: &[u8], p: &mut Plan, site: Site, check: Check)
+    requires { RowsFit site × Whole b.now }
     ensures { Did p.old b.now p.new (each_seat (asked_if (site_sheet site) check) (farm_of b.now)) }
 {
     for i in 0..SEATS {
@@ -33,8 +33,8 @@ pub fn ask(b: &[u8], p: &mut [u8], site: Site, check: Check)
 }
 
 // A request that has its answer asks nobody.
-fn ask_by(b: &[u8], p: &mut [u8], site: Site, d: Decision)
-    requires { RowsFit site × Whole b.now × PlanOk p.old }
+fn ask_by(b: &[u8], p: &mut Plan, site: Site, d: Decision)
+    requires { RowsFit site × Whole b.now }
     ensures { Did p.old b.now p.new (asking (site_sheet site) d (farm_of b.now)) }
 {
     match d {
@@ -54,8 +54,8 @@ pub fn clear(b: &mut [u8])
 }
 
 // The line's head has just come up.
-pub fn start(b: &mut [u8], p: &mut [u8], site: Site)
-    requires { RowsFit site × Whole b.old × PlanOk p.old }
+pub fn start(b: &mut [u8], p: &mut Plan, site: Site)
+    requires { RowsFit site × Whole b.old }
     ensures { Did p.old b.new p.new (started (site_sheet site) (farm_of b.old)) }
 {
     clear(b);
@@ -68,8 +68,8 @@ pub fn start(b: &mut [u8], p: &mut [u8], site: Site)
 }
 
 // The head leaves, and the next comes up.
-pub fn advance(b: &mut [u8], p: &mut [u8], site: Site)
-    requires { (0 < length (farm_of b.old).line) × RowsFit site × Whole b.old × PlanOk p.old }
+pub fn advance(b: &mut [u8], p: &mut Plan, site: Site)
+    requires { (0 < length (farm_of b.old).line) × RowsFit site × Whole b.old }
     ensures { Did p.old b.new p.new (advanced (site_sheet site) (drop 1 (farm_of b.old).line) (farm_of b.old)) }
 {
     table_line::pop(b);

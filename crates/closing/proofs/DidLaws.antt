@@ -13,7 +13,7 @@ use borrow.Author.Tests.{lt-ltb}
 use Rattle.kinds.specs.declared.Item.{Item}
 use Rattle.model.specs.Farm.{Farm, Done, does, quietly, and_then, each_seat, seat_count}
 use Rattle.model.proofs.Seats.{seats_to, seats-zero, seats-suc, seats-all}
-use Rattle.plan.specs.Plan.{plan_room, items_of, PlanOk, Said, pushed_to}
+use Rattle.plan.specs.Plan.{plan_room, pushed_to}
 use Rattle.table.specs.Block.{farm_of, Whole, Holds}
 use Rattle.closing.specs.Did.{pushed_all, Did}
 
@@ -45,35 +45,34 @@ pushed_first items h = pushed_room [] items (omega arith)
 
 -- ---- one thing after another
 
-pub did_same : {p b q : List ℕ} {d : Done} (e : Done) → d ≡ e → Did p b q d → Did p b q e
-did_same {p} {b} {q} e h x = subst (λ (y : Done). Did p b q y) h x
+pub did_same : {p q : List Item} {b : List ℕ} {d : Done} (e : Done) → d ≡ e → Did p b q d → Did p b q e
+did_same {p} {q} {b} e h x = subst (λ (y : Done). Did p b q y) h x
 
-pub did-quietly : {p b : List ℕ} {f : Farm} → Holds b f → PlanOk p → Did p b p (quietly f)
-did-quietly {p} h k = record { is = h.is; said = sym (pushed_none (items_of p)); whole = h.whole; ok = k }
+pub did-quietly : {p : List Item} {b : List ℕ} {f : Farm} → Holds b f → Did p b p (quietly f)
+did-quietly {p} h = record { is = h.is; said = sym (pushed_none p); whole = h.whole }
 
-pub did_nothing : (p b : List ℕ) → Whole b → PlanOk p → Did p b p (quietly (farm_of b))
-did_nothing p b h k = record { is = refl; said = sym (pushed_none (items_of p)); whole = h; ok = k }
+pub did_nothing : (p : List Item) (b : List ℕ) → Whole b → Did p b p (quietly (farm_of b))
+did_nothing p b h = record { is = refl; said = sym (pushed_none p); whole = h }
 
-pub did-says : {p b q : List ℕ} {f : Farm} {it : Item} → Holds b f → Said q (pushed_to (items_of p) it) → Did p b q (does f (it ∷ []))
-did-says {p} {it = it} h s = record { is = h.is; said = s.is ∙ sym (pushed_one (items_of p) it); whole = h.whole; ok = s.ok }
+pub did-says : {p q : List Item} {b : List ℕ} {f : Farm} {it : Item} → Holds b f → q ≡ pushed_to p it → Did p b q (does f (it ∷ []))
+did-says {p} {it = it} h s = record { is = h.is; said = s ∙ sym (pushed_one p it); whole = h.whole }
 
-pub did_then : {p b q c r : List ℕ} (d : Done) (next : Farm → Done) → Did p b q d → Did q c r (next (farm_of b)) → Did p c r (and_then d next)
+pub did_then : {p q r : List Item} {b c : List ℕ} (d : Done) (next : Farm → Done) → Did p b q d → Did q c r (next (farm_of b)) → Did p c r (and_then d next)
 unfolding and_then
-did_then {p} {b} d next x y =
+did_then {p} {b = b} d next x y =
     record {
       is = y.is ∙ ap (λ (f : Farm). (next f).farm) x.is;
       said =
           y.said
           ∙ ap (λ (l : List Item). pushed_all l (next (farm_of b)).items) x.said
-          ∙ ap (λ (f : Farm). pushed_all (pushed_all (items_of p) d.items) (next f).items) x.is
-          ∙ pushed_append (items_of p) d.items (next d.farm).items;
+          ∙ ap (λ (f : Farm). pushed_all (pushed_all p d.items) (next f).items) x.is
+          ∙ pushed_append p d.items (next d.farm).items;
       whole = y.whole;
-      ok = y.ok;
     }
 
 -- after a change that says nothing
-pub did_after : {p b c r : List ℕ} {f : Farm} (next : Farm → Done) → Holds b f → Did p c r (next (farm_of b)) → Did p c r (next f)
-did_after {p} {b} {c} {r} next h y = subst (λ (g : Farm). Did p c r (next g)) h.is y
+pub did_after : {p r : List Item} {b c : List ℕ} {f : Farm} (next : Farm → Done) → Holds b f → Did p c r (next (farm_of b)) → Did p c r (next f)
+did_after {p} {r} {c = c} next h y = subst (λ (g : Farm). Did p c r (next g)) h.is y
 
 pub then_assoc : (d : Done) (g h : Farm → Done) → and_then d (λ f. and_then (g f) h) ≡ and_then (and_then d g) h
 unfolding and_then
@@ -83,12 +82,12 @@ then_assoc d g h =
 -- ---- the seats one after another
 
 module _ (g : ℕ → Farm → Done) where
-  pub did_start : (p b : List ℕ) → Whole b → PlanOk p → Did p b p (seats_to g (farm_of b) 0)
-  did_start p b h k = did_same _ (sym (seats-zero g (farm_of b))) (did_nothing p b h k)
+  pub did_start : (p : List Item) (b : List ℕ) → Whole b → Did p b p (seats_to g (farm_of b) 0)
+  did_start p b h = did_same _ (sym (seats-zero g (farm_of b))) (did_nothing p b h)
 
-  pub did_seat : {p b q c r : List ℕ} (f : Farm) (i : ℕ) → Did p b q (seats_to g f i) → Did q c r (g i (farm_of b)) → Did p c r (seats_to g f (i + 1))
+  pub did_seat : {p q r : List Item} {b c : List ℕ} (f : Farm) (i : ℕ) → Did p b q (seats_to g f i) → Did q c r (g i (farm_of b)) → Did p c r (seats_to g f (i + 1))
   did_seat f i x y =
       did_same _ (sym (seats-suc g f i) ∙ ap (seats_to g f) (sym (add-one i))) (did_then (seats_to g f i) (g i) x y)
 
-  pub did-all : {p b q : List ℕ} (f : Farm) (i : ℕ) → Did p b q (seats_to g f i) → i ≤ seat_count → seat_count ≤ i → Did p b q (each_seat g f)
+  pub did-all : {p q : List Item} {b : List ℕ} (f : Farm) (i : ℕ) → Did p b q (seats_to g f i) → i ≤ seat_count → seat_count ≤ i → Did p b q (each_seat g f)
   did-all f i x h k = did_same _ (ap (seats_to g f) (le_antisymm h k) ∙ sym (seats-all g f)) x

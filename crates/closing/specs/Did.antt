@@ -5,7 +5,7 @@ use Rattle.std.specs.Prelude.{ℕ, ◌+◌, ◌<◌, ◌≤◌, ◌≡◌, List,
 use Rattle.kinds.specs.declared.Item.{Item}
 use Rattle.kinds.specs.declared.Site.{Site}
 use Rattle.model.specs.Farm.{Done}
-use Rattle.plan.specs.Plan.{items_of, PlanOk, pushed_to}
+use Rattle.plan.specs.Plan.{pushed_to}
 use Rattle.table.specs.Layout.{seats}
 use Rattle.table.specs.Block.{farm_of, Whole}
 
@@ -22,9 +22,8 @@ unfoldable pub pushed_all : List Item → List Item → List Item
 pushed_all items [] = items
 pushed_all items (it ∷ more) = pushed_all (pushed_to items it) more
 
--- from the plan p on, the block after and the plan after are what d says
-pub record Did (p after plan : List ℕ) (d : Done) : Type 0 where
+-- from a plan of the items p on, the block after and the plan after are what d says
+pub record Did (p : List Item) (after : List ℕ) (plan : List Item) (d : Done) : Type 0 where
   pub is : farm_of after ≡ d.farm
-  pub said : items_of plan ≡ pushed_all (items_of p) d.items
+  pub said : plan ≡ pushed_all p d.items
   pub whole : Whole after
-  pub ok : PlanOk plan

@@ -4,7 +4,6 @@ ghost use Rattle.kinds.specs.declared.Row.{Row};
 ghost use Rattle.model.specs.Row.{in_hand_at, in_hand_by, row_at, is_open_state, at_limit_state, is_open, at_limit};
 ghost use Rattle.model.specs.Farm.{lost_more, closed, closed_if, closed_where};
 ghost use Rattle.model.specs.Line.{is_silent};
-ghost use Rattle.plan.specs.Plan.{PlanOk};
 ghost use Rattle.table.specs.Layout.{seats, block_size};
 ghost use Rattle.table.specs.Block.{farm_of, Whole};
 ghost use Rattle.decide.specs.SiteSheet.{site_sheet};
@@ -13,6 +12,7 @@ ghost use Rattle.closing.specs.Closes.{closes_by};
 
 use crate::say;
 use kinds::{Check, Clock, Meters, Place, Reply, RowState, Site};
+use plan::Plan;
 use table::SEATS;
 
 // The bytes of a header.
@@ -52,8 +52,8 @@ fn lost_by(m: Meters, state: RowState, place: Place) -> Meters
 
 // ---- one row
 
-pub fn close(b: &mut [u8], p: &mut [u8], site: Site, i: usize)
-    requires { (i < seats) × RowsFit site × Whole b.old × PlanOk p.old }
+pub fn close(b: &mut [u8], p: &mut Plan, site: Site, i: usize)
+    requires { (i < seats) × RowsFit site × Whole b.old }
     ensures { Did p.old b.new p.new (closed (site_sheet site) i (farm_of b.old)) }
 {
     let row = table::row::row_at(b, i);
@@ -103,8 +103,8 @@ fn closes(b: &[u8], what: Closing, m: [bool; SEATS], i: usize) -> bool
     }
 }
 
-fn close_if(b: &mut [u8], p: &mut [u8], site: Site, what: Closing, m: [bool; SEATS], i: usize)
-    requires { (i < seats) × RowsFit site × Whole b.old × PlanOk p.old }
+fn close_if(b: &mut [u8], p: &mut Plan, site: Site, what: Closing, m: [bool; SEATS], i: usize)
+    requires { (i < seats) × RowsFit site × Whole b.old }
     ensures { Did p.old b.new p.new (closed_if (site_sheet site) (closes_by what m) i (farm_of b.old)) }
 {
     if closes(b, what, m, i) {
@@ -113,8 +113,8 @@ fn close_if(b: &mut [u8], p: &mut [u8], site: Site, what: Closing, m: [bool; SEA
 }
 
 // "lowest first"
-fn close_where(b: &mut [u8], p: &mut [u8], site: Site, what: Closing, m: [bool; SEATS])
-    requires { RowsFit site × Whole b.old × PlanOk p.old }
+fn close_where(b: &mut [u8], p: &mut Plan, site: Site, what: Closing, m: [bool; SEATS])
+    requires { RowsFit site × Whole b.old }
     ensures { Did p.old b.new p.new (closed_where (site_sheet site) (closes_by what m) (farm_of b.old)) }
 {
     for i in 0..SEATS {
@@ -123,23 +123,23 @@ fn close_where(b: &mut [u8], p: &mut [u8], site: Site, what: Closing, m: [bool; 
 }
 
 // "unanswered asked rows close": m are the marks before the first of them closes
-pub fn close_silent(b: &mut [u8], p: &mut [u8], site: Site, check: Check, m: [bool; SEATS])
-    requires { RowsFit site × Whole b.old × PlanOk p.old }
+pub fn close_silent(b: &mut [u8], p: &mut Plan, site: Site, check: Check, m: [bool; SEATS])
+    requires { RowsFit site × Whole b.old }
     ensures { Did p.old b.new p.new (closed_where (site_sheet site) (is_silent check m) (farm_of b.old)) }
 {
     close_where(b, p, site, Closing::Silent(check), m);
 }
 
-pub fn close_due(b: &mut [u8], p: &mut [u8], site: Site)
-    requires { RowsFit site × Whole b.old × PlanOk p.old }
+pub fn close_due(b: &mut [u8], p: &mut Plan, site: Site)
+    requires { RowsFit site × Whole b.old }
     ensures { Did p.old b.new p.new (closed_where (site_sheet site) (λ (seat : ℕ) (r : Row). at_limit r) (farm_of b.old)) }
 {
     let none = [false; SEATS];
     close_where(b, p, site, Closing::Due, none);
 }
 
-pub fn close_open(b: &mut [u8], p: &mut [u8], site: Site)
-    requires { RowsFit site × Whole b.old × PlanOk p.old }
+pub fn close_open(b: &mut [u8], p: &mut Plan, site: Site)
+    requires { RowsFit site × Whole b.old }
     ensures { Did p.old b.new p.new (closed_where (site_sheet site) (λ (seat : ℕ) (r : Row). is_open r) (farm_of b.old)) }
 {
     let none = [false; SEATS];

@@ -2,30 +2,24 @@
 ghost use Rattle.std.specs.Prelude.{◌≡◌, ◌<◌};
 ghost use Rattle.model.specs.Row.{row_of};
 ghost use Rattle.model.specs.Farm.{says};
-ghost use Rattle.plan.specs.Plan.{items_of, PlanOk, Said, pushed_to};
+ghost use Rattle.plan.specs.Plan.{pushed_to};
 ghost use Rattle.table.specs.Layout.{seats};
 ghost use Rattle.decide.specs.SiteSheet.{site_sheet};
 ghost use Rattle.closing.specs.Did.{RowsFit};
 
 use kinds::{Item, Place, Reply, Row, RowNo, RowState, Site};
+use plan::Plan;
 
 // The version that we speak.
 pub const VERSION: u8 = 3;
 
-pub fn say(p: &mut [u8], site: Site, seat: usize, reply: Reply)
-    requires { (seat < seats) × RowsFit site × PlanOk p.old }
-    ensures { Said p.new (pushed_to (items_of p.old) (says (site_sheet site) seat reply)) }
+pub fn say(p: &mut Plan, site: Site, seat: usize, reply: Reply)
+    requires { (seat < seats) × RowsFit site }
+    ensures { p.new ≡ pushed_to p.old (says (site_sheet site) seat reply) }
 {
     let n = octets::wide(site.first) + seat;
     let row = RowNo(n as u8);
-    plan::push(
-        p,
-        Item {
-            row: row,
-            version: VERSION,
-            reply: reply,
-        },
-    );
+    p.push(Item { row, version: VERSION, reply });
 }
 
 // A row between two messages.

@@ -5,7 +5,6 @@ ghost use Rattle.std.specs.Prelude.{◌≡◌, ◌<◌};
 ghost use Rattle.sheet.specs.Rules.{GoodSheet};
 ghost use Rattle.model.specs.FarmSheet.{farm_sheet};
 ghost use Rattle.model.specs.Bytes.{diagnosed};
-ghost use Rattle.plan.specs.Plan.{items_of, PlanOk, Said};
 ghost use Rattle.table.specs.Layout.{seats};
 ghost use Rattle.table.specs.Block.{farm_of, Whole};
 ghost use Rattle.decide.specs.SiteSheet.{site_sheet};
@@ -16,6 +15,7 @@ ghost use Rattle.diagnostic.specs.Codes.{target_code, replies_by};
 use closing::say;
 use kinds::{FarmNo, Reply, Site};
 use payload::Ends;
+use plan::Plan;
 use rowwork::refuse;
 use sheet::find;
 
@@ -51,9 +51,9 @@ fn code_for(s: &[u8], f: FarmNo, target: u16) -> u8
 }
 
 // "Both replies: target, source, code." What is handed on is acknowledged first.
-fn reply(p: &mut [u8], site: Site, seat: usize, e: Ends, code: u8)
-    requires { (seat < seats) × RowsFit site × PlanOk p.old }
-    ensures { Said p.new (pushed_all (items_of p.old) (replies_by (site_sheet site) seat e code)) }
+fn reply(p: &mut Plan, site: Site, seat: usize, e: Ends, code: u8)
+    requires { (seat < seats) × RowsFit site }
+    ensures { p.new ≡ pushed_all p.old (replies_by (site_sheet site) seat e code) }
 {
     if code == GOES_ON {
         say::say(p, site, seat, Reply::Ack(e.target, e.source, code));
@@ -68,8 +68,8 @@ fn reply(p: &mut [u8], site: Site, seat: usize, e: Ends, code: u8)
     );
 }
 
-pub fn diagnose(b: &mut [u8], p: &mut [u8], s: &[u8], f: FarmNo, site: Site, seat: usize, e: Ends)
-    requires { (seat < seats) × Sited s.now f.0 site × Whole b.old × PlanOk p.old }
+pub fn diagnose(b: &mut [u8], p: &mut Plan, s: &[u8], f: FarmNo, site: Site, seat: usize, e: Ends)
+    requires { (seat < seats) × Sited s.now f.0 site × Whole b.old }
     ensures { Did p.old b.new p.new (diagnosed (farm_sheet s.now f.0) seat e (farm_of b.old)) }
 {
     if decide::active_as(b, seat, e.source) {

@@ -33,7 +33,8 @@ fn put_head(out: &mut [u8], at: usize, row: RowNo, kind: u8, n: usize)
     requires { (n < 65536) × (at + 4 ≤ length out.old) }
     ensures { out.new ≡ put_at out.old at (row.0 ∷ kind ∷ be16 n) }
 {
-    let head = [row.0, kind, (n / 256) as u8, (n % 256) as u8];
+    let size = (n as u16).to_be_bytes();
+    let head = [row.0, kind, size[0], size[1]];
     octets::put(out, at, &head);
 }
 
@@ -89,40 +90,29 @@ pub fn put_entry(out: &mut [u8], at: usize, it: Item, long: &[u8]) -> usize
 {
     let row = it.row;
     let v = it.version;
-    let what = it.reply;
-    match what {
-        Reply::Nack(c) => {
-            let b = short_replies::nack(v, c);
-            put_bytes(out, at, row, SEND, &b)
-        }
+    match it.reply {
+        Reply::Nack(c) => put_bytes(out, at, row, SEND, &short_replies::nack(v, c)),
         Reply::Identity => put_identity(out, at, row, v, long),
-        Reply::Activation(a, e, c) => {
-            let b = short_replies::activation(v, a, e, c);
-            put_bytes(out, at, row, SEND, &b)
-        }
-        Reply::AliveCheck => {
-            let b = short_replies::alive_check(v);
-            put_bytes(out, at, row, SEND, &b)
-        }
-        Reply::Status(q, o) => {
-            let b = short_replies::status(v, q, o);
-            put_bytes(out, at, row, SEND, &b)
-        }
-        Reply::PowerMode(m) => {
-            let b = short_replies::power_mode(v, m);
-            put_bytes(out, at, row, SEND, &b)
-        }
+        Reply::Activation(a, e, c) => put_bytes(
+            out,
+            at,
+            row,
+            SEND,
+            &short_replies::activation(v, a, e, c),
+        ),
+        Reply::AliveCheck => put_bytes(out, at, row, SEND, &short_replies::alive_check(v)),
+        Reply::Status(q, o) => put_bytes(out, at, row, SEND, &short_replies::status(v, q, o)),
+        Reply::PowerMode(m) => put_bytes(out, at, row, SEND, &short_replies::power_mode(v, m)),
         Reply::Message(k, t) => put_message(out, at, row, v, k, t, long),
-        Reply::Ack(t, s, c) => {
-            let b = short_replies::ack(v, t, s, c);
-            put_bytes(out, at, row, SEND, &b)
-        }
-        Reply::DiagnosticNack(t, s, c) => {
-            let b = short_replies::diagnostic_nack(v, t, s, c);
-            put_bytes(out, at, row, SEND, &b)
-        }
-        // No bytes: the empty front of what is lent.
-        Reply::Close => put_bytes(out, at, row, CLOSE, &long[..0]),
+        Reply::Ack(t, s, c) => put_bytes(out, at, row, SEND, &short_replies::ack(v, t, s, c)),
+        Reply::DiagnosticNack(t, s, c) => put_bytes(
+            out,
+            at,
+            row,
+            SEND,
+            &short_replies::diagnostic_nack(v, t, s, c),
+        ),
+        Reply::Close => put_bytes(out, at, row, CLOSE, &[]),
         Reply::HandOn => put_bytes(out, at, row, HAND_ON, long),
     }
 }

@@ -9,6 +9,7 @@ use lib.Dec.{eqb}
 use lib.ListN.{get_or, take}
 use Rattle.octets.specs.Choice.{pick}
 use Rattle.kinds.specs.declared.Request.{Request}
+use Rattle.kinds.specs.declared.Item.{Item}
 use Rattle.kinds.specs.declared.Decision.{Decision}
 use Rattle.kinds.specs.declared.Decision.TheVariants.{Now, Ask}
 use Rattle.kinds.specs.declared.Site.{Site}
@@ -115,7 +116,7 @@ payload-short (skipped size) w = omega arith
 
 -- ---- the call: the row is heard, what ended it is done, the line is settled
 
-pub bytes-did : {p b c q d r : List ℕ} (own : FarmSheet) (site : Site) (seat : ℕ) (t : Taken) (f : Farm) → SameSite (site_sheet site) own
+pub bytes-did : {p q r : List Item} {b c d : List ℕ} (own : FarmSheet) (site : Site) (seat : ℕ) (t : Taken) (f : Farm) → SameSite (site_sheet site) own
     → Holds b (heard seat t f) → Did p c q (event_done own seat t.event t.stream.room (farm_of b)) → Did q d r (settle (site_sheet site) (farm_of c))
     → Did p d r (bytes_done own seat t f)
 unfolding bytes_done

@@ -7,7 +7,6 @@ ghost use Rattle.model.specs.FarmSheet.{farm_sheet};
 ghost use Rattle.model.specs.Row.{row_at, is_waiting};
 ghost use Rattle.model.specs.Bytes.{heard, taken_by};
 ghost use Rattle.model.specs.Rule.{Good};
-ghost use Rattle.plan.specs.Plan.{PlanOk};
 ghost use Rattle.table.specs.Layout.{seats};
 ghost use Rattle.table.specs.Block.{farm_of, Whole, Holds};
 ghost use Rattle.site.specs.Site.{Sited};
@@ -17,6 +16,7 @@ ghost use Rattle.farm_bytes.specs.Bytes.{BytesDid};
 use kinds::{FarmNo, Row, Site};
 use line::settle;
 use messages::message;
+use plan::Plan;
 use stream::Took;
 
 // How many bytes were taken, and how many bytes of the row's room are the payload of the message that is finished.
@@ -46,7 +46,7 @@ fn hear(b: &mut [u8], seat: usize, t: Took)
 
 pub fn bytes(
     b: &mut [u8],
-    p: &mut [u8],
+    p: &mut Plan,
     room: &mut [u8],
     s: &[u8],
     f: FarmNo,
@@ -54,7 +54,7 @@ pub fn bytes(
     seat: usize,
     input: &[u8],
 ) -> Heard
-    requires { (seat < seats) × (length room.old ≡ most_payload) × Sited s.now f.0 site × Good (farm_sheet s.now f.0) (farm_of b.old) × (is_waiting (row_at (farm_of b.old).rows seat) ≡ false) × Whole b.old × PlanOk p.old }
+    requires { (seat < seats) × (length room.old ≡ most_payload) × Sited s.now f.0 site × Good (farm_sheet s.now f.0) (farm_of b.old) × (is_waiting (row_at (farm_of b.old).rows seat) ≡ false) × Whole b.old }
     ensures { BytesDid result (farm_sheet s.now f.0) seat (taken_by seat room.old input.now (farm_of b.old)) (farm_of b.old) p.old b.new p.new room.new }
 {
     let row = table::row::row_at(b, seat);

@@ -10,6 +10,7 @@ use lib.ListN.{length}
 use Rattle.octets.specs.Choice.{pick, both, unless}
 use Rattle.octets.specs.Search.{first_at}
 use Rattle.kinds.specs.declared.Site.{Site}
+use Rattle.kinds.specs.declared.Item.{Item}
 use Rattle.kinds.specs.declared.Reply.TheVariants.{Message}
 use Rattle.sheet.specs.declared.find.Known.{Known}
 use Rattle.model.specs.FarmSheet.{FarmSheet, stranger, reachable, unreachable, target_by, farm_sheet}
@@ -17,7 +18,7 @@ use Rattle.model.specs.Row.{active_as}
 use Rattle.model.specs.Farm.{Farm, says}
 use Rattle.model.specs.Move.{Held, Move, refused, most_user, is_target, to_tester, controller_move}
 use Rattle.model.specs.Table.{items_by}
-use Rattle.plan.specs.Plan.{items_of, PlanOk, Said, pushed_to}
+use Rattle.plan.specs.Plan.{pushed_to}
 use Rattle.decide.specs.SiteSheet.{site_sheet}
 use Rattle.closing.specs.Did.{pushed_all}
 use Rattle.closing.proofs.DidLaws.{pushed_none, pushed_one}
@@ -66,20 +67,19 @@ module _ (own : FarmSheet) (h : Held) (from to : ℕ) (user : List ℕ) where
 
 -- ---- what is answered and said
 
-module _ (s : List ℕ) (f : ℕ) (farm : Farm) (p : List ℕ) (from to : ℕ) (user : List ℕ) where
-  pub messaged-refused : (n : ℕ) → ((rooms : List (List ℕ)) → message_move s f farm from to user rooms ≡ refused n) → PlanOk p
+module _ (s : List ℕ) (f : ℕ) (farm : Farm) (p : List Item) (from to : ℕ) (user : List ℕ) where
+  pub messaged-refused : (n : ℕ) → ((rooms : List (List ℕ)) → message_move s f farm from to user rooms ≡ refused n)
       → Messaged s f farm p p from to user n
-  messaged-refused n e ok =
+  messaged-refused n e =
       record {
         number = λ rooms. sym (ap number_by (e rooms));
-        said = λ rooms. sym (pushed_none (items_of p)) ∙ ap (λ (m : Move). pushed_all (items_of p) (items_by m)) (sym (e rooms));
-        ok = ok;
+        said = λ rooms. sym (pushed_none p) ∙ ap (λ (m : Move). pushed_all p (items_by m)) (sym (e rooms));
       }
 
   -- the item has the row's number over the whole sheet
-  pub messaged-said : (site : Site) → Sited s f site → (after : List ℕ) (seat : ℕ)
+  pub messaged-said : (site : Site) → Sited s f site → (after : List Item) (seat : ℕ)
       → ((rooms : List (List ℕ)) → message_move s f farm from to user rooms ≡ to_tester (farm_sheet s f) (record { farm = farm; rooms = rooms }) from to user (Some seat))
-      → Said after (pushed_to (items_of p) (says (site_sheet site) seat (Message from to))) → Messaged s f farm p after from to user 0
+      → after ≡ pushed_to p (says (site_sheet site) seat (Message from to)) → Messaged s f farm p after from to user 0
   messaged-said site at after seat e said =
       let same : says (site_sheet site) seat (Message from to) ≡ says (farm_sheet s f) seat (Message from to) =
       rw (sited_same s f site at).first
@@ -88,9 +88,8 @@ module _ (s : List ℕ) (f : ℕ) (farm : Farm) (p : List ℕ) (from to : ℕ) (
         number = λ rooms. sym (ap number_by (e rooms));
         said =
             λ rooms.
-            said.is
-            ∙ ap (pushed_to (items_of p)) same
-            ∙ sym (pushed_one (items_of p) (says (farm_sheet s f) seat (Message from to)))
-            ∙ ap (λ (m : Move). pushed_all (items_of p) (items_by m)) (sym (e rooms));
-        ok = said.ok;
+            said
+            ∙ ap (pushed_to p) same
+            ∙ sym (pushed_one p (says (farm_sheet s f) seat (Message from to)))
+            ∙ ap (λ (m : Move). pushed_all p (items_by m)) (sym (e rooms));
       }

@@ -2,11 +2,11 @@
 -- Assumes nothing: these are definitions.
 use Rattle.std.specs.Prelude.{ℕ, ◌≡◌, Bool, List, leb}
 use Rattle.octets.specs.Choice.{both}
+use Rattle.kinds.specs.declared.Item.{Item}
 use Rattle.model.specs.FarmSheet.{farm_sheet}
 use Rattle.model.specs.Farm.{Farm}
 use Rattle.model.specs.Move.{Move, refused, gave, most_user, controller_move}
 use Rattle.model.specs.Table.{items_by}
-use Rattle.plan.specs.Plan.{items_of, PlanOk}
 use Rattle.closing.specs.Did.{pushed_all}
 
 -- "0 or over 2,044 bytes of user data" is refused
@@ -22,8 +22,7 @@ number_by (gave g) = 0
 abbrev pub message_move : List ℕ → ℕ → Farm → ℕ → ℕ → List ℕ → List (List ℕ) → Move
 message_move s f farm from to user rooms = controller_move (farm_sheet s f) (record { farm = farm; rooms = rooms }) from to user
 
--- from the plan p on, the plan after and the answer are what the move says
-pub record Messaged (s : List ℕ) (f : ℕ) (farm : Farm) (p after : List ℕ) (from to : ℕ) (user : List ℕ) (r : ℕ) : Type 0 where
+-- from a plan of the items p on, the plan after and the answer are what the move says
+pub record Messaged (s : List ℕ) (f : ℕ) (farm : Farm) (p after : List Item) (from to : ℕ) (user : List ℕ) (r : ℕ) : Type 0 where
   pub number : (rooms : List (List ℕ)) → r ≡ number_by (message_move s f farm from to user rooms)
-  pub said : (rooms : List (List ℕ)) → items_of after ≡ pushed_all (items_of p) (items_by (message_move s f farm from to user rooms))
-  pub ok : PlanOk after
+  pub said : (rooms : List (List ℕ)) → after ≡ pushed_all p (items_by (message_move s f farm from to user rooms))

@@ -5,7 +5,6 @@ ghost use Rattle.std.specs.Prelude.{◌≡◌, length};
 ghost use Rattle.sheet.specs.Rules.{GoodSheet};
 ghost use Rattle.model.specs.FarmSheet.{farm_sheet};
 ghost use Rattle.model.specs.Move.{is_target};
-ghost use Rattle.plan.specs.Plan.{PlanOk};
 ghost use Rattle.table.specs.Layout.{block_size};
 ghost use Rattle.table.specs.Block.{farm_of};
 ghost use Rattle.site.specs.Site.{Sited};
@@ -13,6 +12,7 @@ ghost use Rattle.farm_controller.specs.Message.{size_fits, Messaged};
 
 use closing::say;
 use kinds::{FarmNo, Reply, Site};
+use plan::Plan;
 use sheet::find;
 
 // "9 | controller message with 0 or over 2,044 bytes of user data"
@@ -41,7 +41,7 @@ fn is_target(s: &[u8], f: FarmNo, from: u16) -> bool
 // The refusal's number, or 0 where it is done.
 pub fn message(
     b: &[u8],
-    p: &mut [u8],
+    p: &mut Plan,
     s: &[u8],
     f: FarmNo,
     site: Site,
@@ -49,7 +49,7 @@ pub fn message(
     to: u16,
     user: &[u8],
 ) -> u8
-    requires { (length b.now ≡ block_size) × Sited s.now f.0 site × PlanOk p.old }
+    requires { (length b.now ≡ block_size) × Sited s.now f.0 site }
     ensures { Messaged s.now f.0 (farm_of b.now) p.old p.new from to user.now result }
 {
     if !size_fits(user.len()) {

@@ -5,7 +5,6 @@ ghost use Rattle.std.specs.Prelude.{◌<◌};
 ghost use Rattle.model.specs.Row.{row_at, older};
 ghost use Rattle.model.specs.Farm.{with_row};
 ghost use Rattle.model.specs.Move.{clock_run, aged, ticked};
-ghost use Rattle.plan.specs.Plan.{PlanOk};
 ghost use Rattle.table.specs.Layout.{seats};
 ghost use Rattle.table.specs.Block.{farm_of, Whole, Holds};
 ghost use Rattle.decide.specs.SiteSheet.{site_sheet};
@@ -14,6 +13,7 @@ ghost use Rattle.closing.specs.Did.{RowsFit, Seated, Did};
 use closing::close;
 use kinds::{RowState, Site};
 use line::settle;
+use plan::Plan;
 use table::SEATS;
 
 // "a running check clock": somebody waits.
@@ -57,8 +57,8 @@ fn age_rows(b: &mut [u8])
     }
 }
 
-pub fn tick(b: &mut [u8], p: &mut [u8], site: Site)
-    requires { Seated (farm_of b.old).line × RowsFit site × Whole b.old × PlanOk p.old }
+pub fn tick(b: &mut [u8], p: &mut Plan, site: Site)
+    requires { Seated (farm_of b.old).line × RowsFit site × Whole b.old }
     ensures { Did p.old b.new p.new (ticked (site_sheet site) (farm_of b.old)) }
 {
     run_clock(b);

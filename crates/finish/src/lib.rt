@@ -4,12 +4,11 @@
 ghost use Rattle.std.specs.Prelude.{◌≡◌, [], ◌≤◌, length};
 ghost use Rattle.outsheet.specs.Sheet.{sheet_of};
 ghost use Rattle.outsheet.specs.Replies.{entries_of};
-ghost use Rattle.plan.specs.Plan.{items_of};
 ghost use Rattle.outsheet.specs.Contracts.{least_output, Room, Wrote};
 ghost use Rattle.lent.specs.Served.{refusal, done};
 
 use lent::Answer;
-use plan::PLAN;
+use plan::Plan;
 
 // Where an answer has no row: "its row is the opened one for connect, else 255".
 pub const NO_ROW: u8 = 255;
@@ -27,10 +26,10 @@ pub fn refused(n: u8) -> Answer
 }
 
 // The call is done: its output sheet is written, once, from the plan.
-pub fn finish(out: &mut [u8], p: &[u8], long: &[u8], row: u8, taken: usize) -> Answer
+pub fn finish(out: &mut [u8], p: &Plan, long: &[u8], row: u8, taken: usize) -> Answer
     requires { Room p.now long.now (length out.old) }
     ensures value { result ≡ done row taken result.length }
-    ensures wrote { Wrote (sheet_of (entries_of long.now (items_of p.now))) out.old out.new result.length }
+    ensures wrote { Wrote (sheet_of (entries_of long.now p.now)) out.old out.new result.length }
 {
     let n = sheet_writer::write_sheet(out, p, long);
     Answer {
@@ -42,12 +41,12 @@ pub fn finish(out: &mut [u8], p: &[u8], long: &[u8], row: u8, taken: usize) -> A
 }
 
 // The same of a call with no long payload.
-pub fn finish_short(out: &mut [u8], p: &[u8], row: u8) -> Answer
+pub fn finish_short(out: &mut [u8], p: &Plan, row: u8) -> Answer
     requires { Room p.now [] (length out.old) }
     ensures value { result ≡ done row 0 result.length }
-    ensures wrote { Wrote (sheet_of (entries_of [] (items_of p.now))) out.old out.new result.length }
+    ensures wrote { Wrote (sheet_of (entries_of [] p.now)) out.old out.new result.length }
 {
-    finish(out, p, &p[..0], row, 0)
+    finish(out, p, &[], row, 0)
 }
 
 // The same of a call with no entry: "a sheet with no entry is `00 00 00 04`".
@@ -56,8 +55,6 @@ pub fn finish_empty(out: &mut [u8], row: u8) -> Answer
     ensures value { result ≡ done row 0 result.length }
     ensures wrote { Wrote (sheet_of (entries_of [] [])) out.old out.new result.length }
 {
-    let mut space = [0; PLAN];
-    let p: &mut [u8] = &mut space;
-    plan::empty(p);
-    finish_short(out, p, row)
+    let mut p = Plan::new();
+    finish_short(out, &p, row)
 }

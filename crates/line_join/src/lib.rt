@@ -3,7 +3,6 @@
 
 ghost use Rattle.std.specs.Prelude.{◌≡◌, ◌<◌, length};
 ghost use Rattle.model.specs.Line.{joined, left, is_asked, marked};
-ghost use Rattle.plan.specs.Plan.{PlanOk};
 ghost use Rattle.table.specs.Layout.{seats, block_size};
 ghost use Rattle.table.specs.Block.{farm_of, Whole, Holds};
 ghost use Rattle.decide.specs.SiteSheet.{site_sheet};
@@ -11,10 +10,11 @@ ghost use Rattle.closing.specs.Did.{RowsFit, Did};
 
 use closing::say;
 use kinds::{Decision, Request, RowState, Site};
+use plan::Plan;
 
 // "A request that needs a check joins the end of its farm's line, the head being place 1; only the head's check runs."
-pub fn join_line(b: &mut [u8], p: &mut [u8], site: Site, seat: usize, q: Request)
-    requires { (seat < seats) × (length (farm_of b.old).line < seats) × RowsFit site × Whole b.old × PlanOk p.old }
+pub fn join_line(b: &mut [u8], p: &mut Plan, site: Site, seat: usize, q: Request)
+    requires { (seat < seats) × (length (farm_of b.old).line < seats) × RowsFit site × Whole b.old }
     ensures { Did p.old b.new p.new (joined (site_sheet site) seat q (farm_of b.old)) }
 {
     let n = table_line::waiting(b);
@@ -26,8 +26,8 @@ pub fn join_line(b: &mut [u8], p: &mut [u8], site: Site, seat: usize, q: Request
 }
 
 // "A waiter whose row closes leaves the line; if it was the head, the next is head."
-pub fn leave_line(b: &mut [u8], p: &mut [u8], site: Site, seat: usize)
-    requires { RowsFit site × Whole b.old × PlanOk p.old }
+pub fn leave_line(b: &mut [u8], p: &mut Plan, site: Site, seat: usize)
+    requires { RowsFit site × Whole b.old }
     ensures { Did p.old b.new p.new (left (site_sheet site) seat (farm_of b.old)) }
 {
     let n = table_line::waiting(b);

@@ -3,7 +3,6 @@ ghost use Rattle.std.specs.Prelude.{◌≡◌, ◌<◌, length, take};
 ghost use Rattle.wire.specs.Header.{most_payload};
 ghost use Rattle.model.specs.FarmSheet.{farm_sheet};
 ghost use Rattle.model.specs.Bytes.{messaged, event_done};
-ghost use Rattle.plan.specs.Plan.{PlanOk};
 ghost use Rattle.table.specs.Layout.{seats};
 ghost use Rattle.table.specs.Block.{farm_of, Whole};
 ghost use Rattle.closing.specs.Did.{Did};
@@ -13,11 +12,12 @@ ghost use Rattle.messages.specs.Length.{RightLength, EndsWell};
 
 use crate::fault;
 use kinds::{Event, FarmNo, Site};
+use plan::Plan;
 
 // By the message's type.
 pub fn message(
     b: &mut [u8],
-    p: &mut [u8],
+    p: &mut Plan,
     room: &[u8],
     s: &[u8],
     f: FarmNo,
@@ -26,7 +26,7 @@ pub fn message(
     kind: u16,
     size: u32,
 )
-    requires { (seat < seats) × (length (farm_of b.old).line < seats) × (length room.now ≡ most_payload) × RightLength kind size × Sited s.now f.0 site × Whole b.old × PlanOk p.old }
+    requires { (seat < seats) × (length (farm_of b.old).line < seats) × (length room.now ≡ most_payload) × RightLength kind size × Sited s.now f.0 site × Whole b.old }
     ensures { Did p.old b.new p.new (messaged (farm_sheet s.now f.0) seat kind (take size room.now) (farm_of b.old)) }
 {
     let n = size as usize;
@@ -49,7 +49,7 @@ pub fn message(
 // By what ended the call: "the input ends, a header is judged wrong, or one message is finished".
 pub fn event(
     b: &mut [u8],
-    p: &mut [u8],
+    p: &mut Plan,
     room: &[u8],
     s: &[u8],
     f: FarmNo,
@@ -57,7 +57,7 @@ pub fn event(
     seat: usize,
     e: Event,
 )
-    requires { (seat < seats) × (length (farm_of b.old).line < seats) × (length room.now ≡ most_payload) × EndsWell (event_of e) × Sited s.now f.0 site × Whole b.old × PlanOk p.old }
+    requires { (seat < seats) × (length (farm_of b.old).line < seats) × (length room.now ≡ most_payload) × EndsWell (event_of e) × Sited s.now f.0 site × Whole b.old }
     ensures { Did p.old b.new p.new (event_done (farm_sheet s.now f.0) seat (event_of e) room.now (farm_of b.old)) }
 {
     match e {

@@ -19,9 +19,8 @@ use Rattle.kinds.specs.declared.Reply.TheVariants.{Nack, Identity, Activation, A
 use Rattle.kinds.specs.declared.Item.{Item}
 use Rattle.outsheet.specs.Sheet.{entry_bytes, bodies, total_of}
 use Rattle.outsheet.specs.Replies.{identity_of, reply_bytes, entry_of, entries_of, is_long, is_long_item}
-use Rattle.plan.specs.Plan.{plan_room, PlanOk, items_of}
+use Rattle.plan.specs.Plan.{plan_room}
 use Rattle.outsheet.specs.Contracts.{least_output, longest, Room}
-use Rattle.plan.proofs.PlanLaws.{items_few}
 use Rattle.outsheet.proofs.SheetLaws.{length-entry}
 
 -- of a lent record, the identity is sent
@@ -61,10 +60,6 @@ pub total_most : (long : List ℕ) (items : List Item) → length items ≤ plan
 total_most long items few one h = omega (arith, length-map items (entry_of long), bodies_most long h items)
 
 -- so that a call shows only its counts
-pub room_for : (p long : List ℕ) (n : ℕ) → PlanOk p → count_if is_long_item (items_of p) ≤ 1 → length long ≤ longest → least_output ≤ n → Room p long n
-room_for p long n ok one h wide =
-    record {
-      ok = ok;
-      short = total_most long (items_of p) (items_few p) one h;
-      wide = wide;
-    }
+pub room_for : (items : List Item) (long : List ℕ) (n : ℕ) → length items ≤ plan_room → count_if is_long_item items ≤ 1 → length long ≤ longest → least_output ≤ n
+    → Room items long n
+room_for items long n few one h wide = record { short = total_most long items few one h; wide = wide }

@@ -4,7 +4,7 @@ use Rattle.std.specs.Prelude.{◌≡◌, List, ◌++◌, ℕ, ◌+◌, ◌≤◌
 use Rattle.octets.specs.Put.{put_at}
 use Rattle.outsheet.specs.Sheet.{Entry, entry_bytes, offsets, bodies, first_place, total_of}
 use Rattle.outsheet.specs.Replies.{entries_of}
-use Rattle.plan.specs.Plan.{PlanOk, items_of}
+use Rattle.kinds.specs.declared.Item.{Item}
 
 -- "Output buffer: at least 4,096 bytes."
 abbrev pub least_output : ℕ
@@ -24,10 +24,9 @@ pub record Entered (e : Entry) (before after : List ℕ) (at next : ℕ) : Type 
   pub place : next ≡ at + (4 + length e.bytes)
   pub bytes : after ≡ put_at before at (entry_bytes e)
 
--- the plan's sheet has room in every output buffer, so in this one of n bytes
-pub record Room (p long : List ℕ) (n : ℕ) : Type 0 where
-  pub ok : PlanOk p
-  pub short : total_of (entries_of long (items_of p)) ≤ least_output
+-- the sheet of a plan's items has room in every output buffer, so in this one of n bytes
+pub record Room (items : List Item) (long : List ℕ) (n : ℕ) : Type 0 where
+  pub short : total_of (entries_of long items) ≤ least_output
   pub wide : least_output ≤ n
 
 -- the offsets and the entries stand at their places, the four bytes before them are as they were, and the answer is the total

@@ -6,8 +6,9 @@ use mathlib.Core.List.{List, [], ◌∷◌, ◌++◌, map}
 use Prim.Native.Nat.{ℕ, zero, suc, ◌+◌, ◌*◌, ◌/◌, ◌%◌, ◌≤◌, ◌<◌, min}
 use native.Mathlib.Omega.{arith}
 use lib.Dec.{ltb}
-use lib.ListN.{length, get_or, set, take, replicate, length-map, length-append, length-set, length-replicate, get_or-map}
+use lib.ListN.{length, get_or, set, take, length-map, length-append, get_or-map}
 use lib.Seq.{drop-set-lt, get_or-set_same}
+use Rattle.std.proofs.lemmas.List.{map-append}
 use borrow.Author.Tests.{lt-ltb, le-ltb, ltb-true}
 use Rattle.octets.specs.Choice.{pick, one}
 use Rattle.octets.specs.Numbers.{u16_at}
@@ -19,7 +20,7 @@ use Rattle.octets.proofs.PartsLaws.{part_same, parts_before, parts_snoc, parts-l
 use Rattle.kinds.specs.declared.Reply.{Reply}
 use Rattle.kinds.specs.declared.Reply.TheVariants.{Nack, Identity, Activation, AliveCheck, Status, PowerMode, Message, Ack, DiagnosticNack, Close, HandOn}
 use Rattle.kinds.specs.declared.Item.{Item}
-use Rattle.plan.specs.Plan.{plan_room, item_size, plan_size, reply_image, item_image, reply_from, item_from, item_at, count_of, items_of, no_item, PlanOk, Said, pushed_to}
+use Rattle.plan.specs.Plan.{plan_room, item_size, plan_size, reply_image, item_image, reply_from, item_from, item_at, count_of, items_of, no_item, pushed_to}
 
 -- ---- an item and its bytes
 
@@ -103,26 +104,11 @@ parts-set k a (suc n) b v h =
     rw (e, parts-set k (a + k) n b v (omega arith))
 
 -- a plan whose count is 0 says nothing
-pub none_said : (p : List ℕ) → length p ≡ plan_size → get_or p 0 0 ≡ 0 → Said p []
+pub none_said : (p : List ℕ) → get_or p 0 0 ≡ 0 → items_of p ≡ []
 unfolding items_of parts
-none_said p l e =
-    record {
-      is = ap (λ (n : ℕ). map item_from (parts item_size 1 (min n plan_room) p)) e;
-      ok = record { long = l };
-    }
-
--- an array of zeros is a plan of no items
-pub zeros_none : Said (replicate plan_size 0) []
-zeros_none = none_said (replicate plan_size 0) (length-replicate {A = ℕ} plan_size 0) refl
-
-pub cleared : (p : List ℕ) → length p ≡ plan_size → Said (set p 0 0) []
-cleared p l = none_said (set p 0 0) (length-set p 0 0 ∙ l) (get_or-set_same p 0 0 0 (omega arith))
+none_said p e = ap (λ (n : ℕ). map item_from (parts item_size 1 (min n plan_room) p)) e
 
 -- ---- a push
-
-map_snoc : {A B : Type 0} (g : A → B) (l : List A) (x : A) → map g (l ++ (x ∷ [])) ≡ map g l ++ (g x ∷ [])
-map_snoc g [] x = refl
-map_snoc g (y ∷ l) x = ap (λ t. g y ∷ t) (map_snoc g l x)
 
 pub pushed_room : (items : List Item) (it : Item) → length items < plan_room → pushed_to items it ≡ items ++ (it ∷ [])
 unfolding pushed_to
@@ -132,19 +118,19 @@ pub pushed_full : (items : List Item) (it : Item) → plan_room ≤ length items
 unfolding pushed_to
 pushed_full items it h = rw (le-ltb (length items) plan_room h)
 
-pub push_full : (p : List ℕ) (it : Item) → PlanOk p → plan_room ≤ get_or p 0 0 → Said p (pushed_to (items_of p) it)
-push_full p it w h = record { is = sym (pushed_full (items_of p) it (omega (arith, count-items p))); ok = w }
+pub push_full : (p : List ℕ) (it : Item) → plan_room ≤ get_or p 0 0 → items_of p ≡ pushed_to (items_of p) it
+push_full p it h = sym (pushed_full (items_of p) it (omega (arith, count-items p)))
 
-module _ (p q r : List ℕ) (it : Item) (w : PlanOk p) (h : get_or p 0 0 < plan_room)
+module _ (p q r : List ℕ) (it : Item) (w : length p ≡ plan_size) (h : get_or p 0 0 < plan_room)
     (eq : q ≡ put_at p (1 + get_or p 0 0 * item_size) (item_image it)) (er : r ≡ set q 0 (get_or p 0 0 + 1)) where
   size : length (item_image it) ≡ item_size
   size = omega (arith, image-size it.reply)
 
   fits : 1 + get_or p 0 0 * item_size + length (item_image it) ≤ length p
-  fits = omega (arith, w.long, size)
+  fits = omega (arith, w, size)
 
   long_q : length q ≡ plan_size
-  long_q = ap length eq ∙ length-put_at p (1 + get_or p 0 0 * item_size) (item_image it) fits ∙ w.long
+  long_q = ap length eq ∙ length-put_at p (1 + get_or p 0 0 * item_size) (item_image it) fits ∙ w
 
   count : get_or r 0 0 ≡ get_or p 0 0 + 1
   count = ap (λ (l : List ℕ). get_or l 0 0) er ∙ get_or-set_same q 0 (get_or p 0 0 + 1) 0 (omega (arith, long_q))
@@ -164,7 +150,7 @@ module _ (p q r : List ℕ) (it : Item) (w : PlanOk p) (h : get_or p 0 0 < plan_
       ∙ ap (parts item_size 1 (get_or p 0 0)) eq
       ∙ parts_before p (1 + get_or p 0 0 * item_size) (item_image it) fits item_size 1 (get_or p 0 0) (omega arith)
 
-  pub push_more : Said r (pushed_to (items_of p) it)
+  pub push_more : items_of r ≡ pushed_to (items_of p) it
   unfolding items_of
   push_more =
       let more : count_of r ≡ suc (get_or p 0 0) = omega (arith, count, h) in
@@ -176,24 +162,16 @@ module _ (p q r : List ℕ) (it : Item) (w : PlanOk p) (h : get_or p 0 0 < plan_
       ∙ ap (λ t. t ++ (item_image it ∷ [])) before
       ∙ ap (λ (k : ℕ). parts item_size 1 k p ++ (item_image it ∷ [])) same
       in
-      record {
-        is = ap (map item_from) all
-            ∙ map_snoc item_from (parts item_size 1 (count_of p) p) (item_image it)
-            ∙ ap (λ t. items_of p ++ (t ∷ [])) (item_back it)
-            ∙ sym (pushed_room (items_of p) it (omega (arith, count-items p)));
-        ok = record { long = ap length er ∙ length-set q 0 (get_or p 0 0 + 1) ∙ long_q };
-      }
-
--- ---- what a plan says after a push, where it is known what it said before
-
-pub said_pushed : {p q : List ℕ} {items : List Item} (it : Item) → Said p items → Said q (pushed_to (items_of p) it) → Said q (pushed_to items it)
-said_pushed it s t = record { is = t.is ∙ ap (λ l. pushed_to l it) s.is; ok = t.ok }
-
-pub said_more : {p q : List ℕ} {items : List Item} (it : Item) → length items < plan_room
-    → Said p items → Said q (pushed_to (items_of p) it) → Said q (items ++ (it ∷ []))
-said_more {items = items} it h s t = record { is = (said_pushed it s t).is ∙ pushed_room items it h; ok = t.ok }
+      ap (map item_from) all
+      ∙ map-append item_from (parts item_size 1 (count_of p) p) (item_image it ∷ [])
+      ∙ ap (λ t. items_of p ++ (t ∷ [])) (item_back it)
+      ∙ sym (pushed_room (items_of p) it (omega (arith, count-items p)))
 
 -- ---- lists that are pushed to
+
+-- what a plan says after a push, where it is known what it said before
+pub said_more : {p q items : List Item} (it : Item) → length items < plan_room → p ≡ items → q ≡ pushed_to p it → q ≡ items ++ (it ∷ [])
+said_more {items = items} it h e f = f ∙ ap (λ (l : List Item). pushed_to l it) e ∙ pushed_room items it h
 
 pub length_pushed : (items : List Item) (it : Item) → length items < plan_room → length (pushed_to items it) ≡ length items + 1
 length_pushed items it h = ap length (pushed_room items it h) ∙ length-append items (it ∷ [])

@@ -6,7 +6,6 @@ ghost use Rattle.model.specs.FarmSheet.{farm_sheet};
 ghost use Rattle.model.specs.Row.{row_at};
 ghost use Rattle.model.specs.Line.{by_state, decide};
 ghost use Rattle.model.specs.Bytes.{decided_by, requested};
-ghost use Rattle.plan.specs.Plan.{PlanOk};
 ghost use Rattle.table.specs.Layout.{seats, block_size};
 ghost use Rattle.table.specs.Block.{farm_of, Whole};
 ghost use Rattle.decide.specs.SiteSheet.{site_sheet};
@@ -15,6 +14,7 @@ ghost use Rattle.site.specs.Site.{Sited};
 ghost use Rattle.request.specs.Again.{again_code};
 
 use kinds::{Decision, FarmNo, Request, RowState, Site};
+use plan::Plan;
 use rowwork::answer;
 use sheet::find;
 
@@ -70,8 +70,8 @@ fn decision(b: &[u8], s: &[u8], f: FarmNo, site: Site, seat: usize, q: Request) 
 }
 
 // "A request that needs a check joins the end of its farm's line"
-fn carry_out(b: &mut [u8], p: &mut [u8], site: Site, seat: usize, q: Request, d: Decision)
-    requires { (seat < seats) × (length (farm_of b.old).line < seats) × RowsFit site × Whole b.old × PlanOk p.old }
+fn carry_out(b: &mut [u8], p: &mut Plan, site: Site, seat: usize, q: Request, d: Decision)
+    requires { (seat < seats) × (length (farm_of b.old).line < seats) × RowsFit site × Whole b.old }
     ensures { Did p.old b.new p.new (decided_by (site_sheet site) seat q d (farm_of b.old)) }
 {
     match d {
@@ -80,8 +80,8 @@ fn carry_out(b: &mut [u8], p: &mut [u8], site: Site, seat: usize, q: Request, d:
     }
 }
 
-pub fn request(b: &mut [u8], p: &mut [u8], s: &[u8], f: FarmNo, site: Site, seat: usize, q: Request)
-    requires { (seat < seats) × (length (farm_of b.old).line < seats) × Sited s.now f.0 site × Whole b.old × PlanOk p.old }
+pub fn request(b: &mut [u8], p: &mut Plan, s: &[u8], f: FarmNo, site: Site, seat: usize, q: Request)
+    requires { (seat < seats) × (length (farm_of b.old).line < seats) × Sited s.now f.0 site × Whole b.old }
     ensures { Did p.old b.new p.new (requested (farm_sheet s.now f.0) seat q (farm_of b.old)) }
 {
     let d = decision(b, s, f, site, seat, q);

@@ -2,7 +2,6 @@
 ghost use Rattle.std.specs.Prelude.{◌<◌};
 ghost use Rattle.model.specs.Farm.{and_then, closed_where};
 ghost use Rattle.model.specs.Line.{accepted, is_silent, answered};
-ghost use Rattle.plan.specs.Plan.{PlanOk};
 ghost use Rattle.table.specs.Layout.{seats};
 ghost use Rattle.table.specs.Block.{farm_of, Whole};
 ghost use Rattle.decide.specs.SiteSheet.{site_sheet};
@@ -12,10 +11,11 @@ ghost use Rattle.rowwork.specs.Acted.{acted};
 use closing::{close, say};
 use decide::ACCEPTED;
 use kinds::{Check, Clock, HeadVerdict, Reply, RowState, Site};
+use plan::Plan;
 
 // "All codes but 10 close the row."
-pub fn answer(b: &mut [u8], p: &mut [u8], site: Site, seat: usize, address: u16, code: u8)
-    requires { (seat < seats) × RowsFit site × Whole b.old × PlanOk p.old }
+pub fn answer(b: &mut [u8], p: &mut Plan, site: Site, seat: usize, address: u16, code: u8)
+    requires { (seat < seats) × RowsFit site × Whole b.old }
     ensures { Did p.old b.new p.new (answered (site_sheet site) seat address code (farm_of b.old)) }
 {
     say::say(p, site, seat, Reply::Activation(address, site.entity, code));
@@ -28,8 +28,8 @@ pub fn answer(b: &mut [u8], p: &mut [u8], site: Site, seat: usize, address: u16,
 }
 
 // "If the clock is 50: unanswered asked rows close, then 10."
-fn run_out(b: &mut [u8], p: &mut [u8], site: Site, head: usize, address: u16, check: Check)
-    requires { (head < seats) × RowsFit site × Whole b.old × PlanOk p.old }
+fn run_out(b: &mut [u8], p: &mut Plan, site: Site, head: usize, address: u16, check: Check)
+    requires { (head < seats) × RowsFit site × Whole b.old }
     ensures { Did p.old b.new p.new (and_then (closed_where (site_sheet site) (is_silent check (farm_of b.old).marks) (farm_of b.old)) (answered (site_sheet site) head address accepted)) }
 {
     let m = table::marks::marks_at(b);
@@ -37,8 +37,8 @@ fn run_out(b: &mut [u8], p: &mut [u8], site: Site, head: usize, address: u16, ch
     answer(b, p, site, head, address, ACCEPTED);
 }
 
-pub fn act(b: &mut [u8], p: &mut [u8], site: Site, head: usize, address: u16, v: HeadVerdict)
-    requires { (head < seats) × RowsFit site × Whole b.old × PlanOk p.old }
+pub fn act(b: &mut [u8], p: &mut Plan, site: Site, head: usize, address: u16, v: HeadVerdict)
+    requires { (head < seats) × RowsFit site × Whole b.old }
     ensures { Did p.old b.new p.new (acted (site_sheet site) head address v (farm_of b.old)) }
 {
     match v {

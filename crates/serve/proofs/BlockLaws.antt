@@ -5,6 +5,7 @@ use Prim.Native.Nat.{ℕ, ◌+◌, ◌-◌, ◌*◌, ◌<◌}
 use mathlib.Core.Path.{◌≡◌, refl, sym, subst}
 use mathlib.Core.List.{List, ◌++◌}
 use lib.ListN.{length, take, drop}
+use Rattle.kinds.specs.declared.Item.{Item}
 use Rattle.octets.proofs.PartsLaws.{part-between}
 use Rattle.sheet.specs.Sheet.{most_farms}
 use Rattle.model.specs.Farm.{Farm, Done}
@@ -27,7 +28,7 @@ given_back t f b = take (f * block_size) t ++ (b ++ drop (f * block_size + block
 pub lent_is : (t : List ℕ) (f : ℕ) → lent_block t f ≡ block t f
 lent_is t f = part-between t (f * block_size) (f * block_size + block_size) block_size refl
 
-pub did-lent : (t b p plan : List ℕ) (f : ℕ) (step : Farm → Done) → length t ≡ table_size → f < most_farms → Did p b plan (step (farm_of (lent_block t f)))
+pub did-lent : (t b : List ℕ) (p plan : List Item) (f : ℕ) (step : Farm → Done) → length t ≡ table_size → f < most_farms → Did p b plan (step (farm_of (lent_block t f)))
     → DidAt f (step (farm_of (block t f))) p t plan (given_back t f b)
 did-lent t b p plan f step long h d =
     let back = lent_back t b f (f * block_size + block_size) long h refl d.whole.long in

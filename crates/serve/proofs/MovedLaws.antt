@@ -1,7 +1,7 @@
 -- From what a farm did on its block and on an empty plan to what the call has done.
 -- Assumes nothing.
 use Prim.Native.Nat.{ℕ, ◌≤◌, ◌<◌}
-use mathlib.Core.Path.{◌≡◌, ap, ◌∙◌}
+use mathlib.Core.Path.{◌≡◌, sym, ap, ◌∙◌, subst}
 use mathlib.Core.List.{List, []}
 use native.Mathlib.Omega.{arith}
 use lib.ListN.{length}
@@ -10,7 +10,7 @@ use Rattle.kinds.specs.declared.Item.{Item}
 use Rattle.sheet.specs.Sheet.{most_farms}
 use Rattle.outsheet.specs.Sheet.{sheet_of}
 use Rattle.outsheet.specs.Replies.{entries_of, is_long_item}
-use Rattle.plan.specs.Plan.{plan_room, items_of, PlanOk, Said}
+use Rattle.plan.specs.Plan.{plan_room}
 use Rattle.outsheet.specs.Contracts.{least_output, Room, Wrote}
 use Rattle.outsheet.proofs.RoomLaws.{room_for}
 use Rattle.model.specs.FarmSheet.{farm_sheet}
@@ -58,20 +58,19 @@ module _ {s t : List ℕ} {f : ℕ} (r : Ready s t f) where
 -- ---- the plan
 
 -- from an empty plan on, it says just these entries
-pub said-items : {p b plan : List ℕ} {d : Done} → Said p [] → Did p b plan d → length d.items ≤ plan_room → items_of plan ≡ d.items
-said-items {d = d} none did few = did.said ∙ ap (λ (x : List Item). pushed_all x d.items) none.is ∙ pushed_first d.items few
+pub said-items : {p plan : List Item} {b : List ℕ} {d : Done} → p ≡ [] → Did p b plan d → length d.items ≤ plan_room → plan ≡ d.items
+said-items {d = d} none did few = did.said ∙ ap (λ (x : List Item). pushed_all x d.items) none ∙ pushed_first d.items few
 
-pub small-room : (plan long : List ℕ) (n : ℕ) (items : List Item) → PlanOk plan → items_of plan ≡ items → Small items long → least_output ≤ n → Room plan long n
-small-room plan long n items ok e small h =
-    room_for plan long n ok (omega (arith, ap (count_if is_long_item) e, small.one_long)) small.short h
+pub small-room : (plan : List Item) (long : List ℕ) (n : ℕ) (items : List Item) → plan ≡ items → Small items long → least_output ≤ n → Room plan long n
+small-room plan long n items e small h = subst (λ (x : List Item). Room x long n) (sym e) (room_for items long n small.few small.one_long small.short h)
 
 -- ---- the call
 
-pub at_same : {f : ℕ} {p t plan after : List ℕ} {d e : Done} → d ≡ e → DidAt f d p t plan after → DidAt f e p t plan after
+pub at_same : {f : ℕ} {p plan : List Item} {t after : List ℕ} {d e : Done} → d ≡ e → DidAt f d p t plan after → DidAt f e p t plan after
 at_same {d = d} {e = e} k x = record { only = x.only; did = did_same e k x.did }
 
-pub moved_of : {f : ℕ} {d : Done} {p t plan after out output : List ℕ} {a : Answer} → Said p [] → Small d.items [] → DidAt f d p t plan after
-    → a ≡ done no_row 0 a.length → Wrote (sheet_of (entries_of [] (items_of plan))) out output a.length → Moved f d t out after output a
+pub moved_of : {f : ℕ} {d : Done} {p plan : List Item} {t after out output : List ℕ} {a : Answer} → p ≡ [] → Small d.items [] → DidAt f d p t plan after
+    → a ≡ done no_row 0 a.length → Wrote (sheet_of (entries_of [] plan)) out output a.length → Moved f d t out after output a
 moved_of none small x e w =
     record {
       answer = e;

@@ -18,7 +18,6 @@ use Rattle.sheet.proofs.LengthLaws.{good_lengths}
 use Rattle.datagram.specs.Datagram.{answer_to}
 use Rattle.outsheet.specs.Sheet.{sheet_of}
 use Rattle.outsheet.specs.Replies.{entries_of}
-use Rattle.plan.specs.Plan.{items_of, Said}
 use Rattle.outsheet.specs.Contracts.{least_output, longest, Room, Wrote}
 use Rattle.model.specs.FarmSheet.{FarmSheet, farm_sheet}
 use Rattle.model.specs.Row.{active_as}
@@ -68,19 +67,19 @@ answer-small a long h =
 pub answer_same : (input : List ℕ) {farm own : List ℕ} {n k : ℕ} {a : Option Reply} → farm ≡ own → n ≡ k → a ≡ answer_to input farm n → a ≡ answer_to input own k
 answer_same input e h x = x ∙ ap₂ (answer_to input) e h
 
-pub answer-room : {s t : List ℕ} {f : ℕ} (plan farm : List ℕ) (n : ℕ) (a : Option Reply) → Ready s t f → farm ≡ farm_record s f → Said plan (answers a) → least_output ≤ n
+pub answer-room : {s t : List ℕ} {f : ℕ} (plan : List Item) (farm : List ℕ) (n : ℕ) (a : Option Reply) → Ready s t f → farm ≡ farm_record s f → plan ≡ answers a → least_output ≤ n
     → Room plan farm n
 answer-room plan farm n a r e x h =
-    small-room plan farm n (answers a) x.ok x.is (answer-small a farm (omega (arith, ap length e, record_long r))) h
+    small-room plan farm n (answers a) x (answer-small a farm (omega (arith, ap length e, record_long r))) h
 
-pub answer_out : {plan farm own out output : List ℕ} {a b : Option Reply} {r : Answer} → farm ≡ own → a ≡ b → Said plan (answers a) → r ≡ done no_row 0 r.length
-    → Wrote (sheet_of (entries_of farm (items_of plan))) out output r.length → SaidOut own (answers b) out output r
+pub answer_out : {plan : List Item} {farm own out output : List ℕ} {a b : Option Reply} {r : Answer} → farm ≡ own → a ≡ b → plan ≡ answers a → r ≡ done no_row 0 r.length
+    → Wrote (sheet_of (entries_of farm plan)) out output r.length → SaidOut own (answers b) out output r
 answer_out {plan} {farm} {own} {out} {output} {a} {b} {r} e k x d w =
     record {
       answer = d;
       wrote =
           subst (λ (long : List ℕ). Wrote (sheet_of (entries_of long (answers b))) out output r.length) e
-          (wrote-items farm (x.is ∙ ap answers k) w);
+          (wrote-items farm (x ∙ ap answers k) w);
     }
 
 -- ---- a controller's message
@@ -102,7 +101,7 @@ sent own h from to user =
     by most None = omega arith
     by most (Some seat) = (record { few = omega arith; one_long = longs_few _; short = omega arith }, refl)
 
-module _ {s : List ℕ} {f : ℕ} {farm : Farm} {p plan : List ℕ} {from to : ℕ} {user : List ℕ} {n : ℕ} (x : Messaged s f farm p plan from to user n) where
+module _ {s : List ℕ} {f : ℕ} {farm : Farm} {p plan : List Item} {from to : ℕ} {user : List ℕ} {n : ℕ} (x : Messaged s f farm p plan from to user n) where
   -- refusals 9 and 10
   pub message-refused : {out : List ℕ} {a : Answer} → 0 < n → a ≡ refusal n → MessageOut s f farm from to user out out a
   message-refused {out} {a} h e = record { by = λ rooms. by (message_move s f farm from to user rooms) (x.number rooms) }
@@ -112,20 +111,20 @@ module _ {s : List ℕ} {f : ℕ} {farm : Farm} {p plan : List ℕ} {from to : �
       by (gave g) i = absurd (omega (arith, h, i))
 
   -- the plan after a message that is not refused
-  planned : (mv : Move) (h : Held) → n ≡ 0 → Sent h user mv → n ≡ number_by mv → Said p [] → items_of plan ≡ pushed_all (items_of p) (items_by mv)
-      → (items_of plan ≡ items_by mv) × Small (items_by mv) user
+  planned : (mv : Move) (h : Held) → n ≡ 0 → Sent h user mv → n ≡ number_by mv → p ≡ [] → plan ≡ pushed_all p (items_by mv)
+      → (plan ≡ items_by mv) × Small (items_by mv) user
   planned (refused k) h z y i none e = absurd (omega (arith, z, y, i))
   planned (gave g) h z y i none e =
-      (e ∙ ap (λ (l : List Item). pushed_all l g.items) none.is ∙ pushed_first g.items y.0.few, y.0)
+      (e ∙ ap (λ (l : List Item). pushed_all l g.items) none ∙ pushed_first g.items y.0.few, y.0)
 
-  pub message-room : (k : ℕ) → n ≡ 0 → Said p [] → least_output ≤ k → Room plan user k
+  pub message-room : (k : ℕ) → n ≡ 0 → p ≡ [] → least_output ≤ k → Room plan user k
   message-room k z none h =
       let mv : Move = message_move s f farm from to user [] in
       let y = planned mv (record { farm = farm; rooms = [] }) z (sent (farm_sheet s f) (record { farm = farm; rooms = [] }) from to user) (x.number []) none (x.said []) in
-      small-room plan user k (items_by mv) x.ok y.0 y.1 h
+      small-room plan user k (items_by mv) y.0 y.1 h
 
-  pub message_out : {out output : List ℕ} {a : Answer} → n ≡ 0 → Said p [] → a ≡ done no_row 0 a.length
-      → Wrote (sheet_of (entries_of user (items_of plan))) out output a.length → MessageOut s f farm from to user out output a
+  pub message_out : {out output : List ℕ} {a : Answer} → n ≡ 0 → p ≡ [] → a ≡ done no_row 0 a.length
+      → Wrote (sheet_of (entries_of user plan)) out output a.length → MessageOut s f farm from to user out output a
   message_out {out} {output} {a} z none d w =
       record {
         by =
@@ -134,7 +133,7 @@ module _ {s : List ℕ} {f : ℕ} {farm : Farm} {p plan : List ℕ} {from to : �
             (x.number rooms) (x.said rooms);
       }
     where
-      by : (mv : Move) (h : Held) → Sent h user mv → n ≡ number_by mv → items_of plan ≡ pushed_all (items_of p) (items_by mv) → MessageOutBy mv user out output a
+      by : (mv : Move) (h : Held) → Sent h user mv → n ≡ number_by mv → plan ≡ pushed_all p (items_by mv) → MessageOutBy mv user out output a
       by (refused k) h y i e = absurd (omega (arith, z, y, i))
       by (gave g) h y i e = record { answer = d; wrote = wrote-items user (planned (gave g) h z y i none e).0 w }
 

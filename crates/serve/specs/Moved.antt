@@ -15,8 +15,8 @@ use Rattle.lent.specs.declared.Answer.{Answer}
 use Rattle.lent.specs.Lent.{block, Only}
 use Rattle.lent.specs.Served.{refusal, done}
 
--- in the table: the farm's block and the plan are what d says, from the plan p on, and no other block is another
-pub record DidAt (f : ℕ) (d : Done) (p t plan after : List ℕ) : Type 0 where
+-- in the table: the farm's block and the plan are what d says, from a plan of the items p on, and no other block is another
+pub record DidAt (f : ℕ) (d : Done) (p : List Item) (t : List ℕ) (plan : List Item) (after : List ℕ) : Type 0 where
   pub only : Only f t after
   pub did : Did p (block after f) plan d
 

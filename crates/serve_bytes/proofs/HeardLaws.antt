@@ -11,12 +11,12 @@ use Rattle.octets.specs.Put.{put_at}
 use Rattle.octets.proofs.PartsLaws.{part_same, part-between, mid_put, length_part, part-short}
 use Rattle.octets.proofs.PutLaws.{length-put_at}
 use Rattle.kinds.specs.declared.Site.{Site}
+use Rattle.kinds.specs.declared.Item.{Item}
 use Rattle.sheet.specs.Sheet.{most_rows}
 use Rattle.sheet.specs.Rows.{first_row, rows_owned}
 use Rattle.sheet.proofs.RowsLaws.{rows-within, rows_few, owned_few}
 use Rattle.outsheet.specs.Sheet.{sheet_of}
 use Rattle.outsheet.specs.Replies.{entries_of}
-use Rattle.plan.specs.Plan.{items_of, Said}
 use Rattle.outsheet.specs.Contracts.{least_output, Room, Wrote}
 use Rattle.model.specs.FarmSheet.{farm_sheet}
 use Rattle.model.specs.Stream.{Taken}
@@ -99,7 +99,7 @@ module _ {s m left : List ℕ} {f seat : ℕ} (only : OnlyRoom s f seat m left) 
   only_full = length_part left (room_at s f seat) room_size (omega (arith, fits, only-long))
 
 -- a function was lent the block and the room, and left b and r there
-module _ (s t m : List ℕ) {f : ℕ} (ready : Ready s t f) {seat : ℕ} (mine : seat < rows_owned s f) (wide : length m ≡ assembling_size) (input p b plan r : List ℕ) (h : Heard) (full : length r ≡ room_size) where
+module _ (s t m : List ℕ) {f : ℕ} (ready : Ready s t f) {seat : ℕ} (mine : seat < rows_owned s f) (wide : length m ≡ assembling_size) (input : List ℕ) (p : List Item) (b : List ℕ) (plan : List Item) (r : List ℕ) (h : Heard) (full : length r ≡ room_size) where
   heard-first : BytesDid h (farm_sheet s f) seat (taken_by seat (lent_room m (first_row s f + seat)) input (farm_of (lent_block t f))) (farm_of (lent_block t f)) p b plan r
       → HeardAt s f seat input p t m plan (given_back t f b) (room_back m (first_row s f + seat) r) h
   heard-first d =
@@ -130,7 +130,7 @@ module _ (s t m : List ℕ) {f : ℕ} (ready : Ready s t f) {seat : ℕ} (mine :
 abbrev pub lent_payload : List ℕ → ℕ → ℕ → List ℕ
 lent_payload left row n = take (row * room_size + n - row * room_size) (drop (row * room_size) left)
 
-module _ {s t m input p plan after left : List ℕ} {f seat : ℕ} {h : Heard} (x : HeardAt s f seat input p t m plan after left h) where
+module _ {s t m input after left : List ℕ} {p plan : List Item} {f seat : ℕ} {h : Heard} (x : HeardAt s f seat input p t m plan after left h) where
   abbrev taken : Taken
   taken = heard_taken s f seat input t m
 
@@ -155,15 +155,15 @@ module _ {s t m input p plan after left : List ℕ} {f seat : ℕ} {h : Heard} (
       }
 
   -- from an empty plan on, it says just the call's entries
-  heard-items : Said p [] → Ready s t f → items_of plan ≡ (heard_done s f seat input t m).items
+  heard-items : p ≡ [] → Ready s t f → plan ≡ (heard_done s f seat input t m).items
   heard-items none ready = said-items none x.did.did (heard-small ready 0).few
 
-  pub heard-room : Said p [] → Ready s t f → (first n : ℕ) → least_output ≤ n → Room plan (lent_payload left (first + seat) h.long) n
+  pub heard-room : p ≡ [] → Ready s t f → (first n : ℕ) → least_output ≤ n → Room plan (lent_payload left (first + seat) h.long) n
   heard-room none ready first n least =
-      small-room plan (lent_payload left (first + seat) h.long) n (heard_done s f seat input t m).items x.did.did.ok (heard-items none ready) (heard-small ready first) least
+      small-room plan (lent_payload left (first + seat) h.long) n (heard_done s f seat input t m).items (heard-items none ready) (heard-small ready first) least
 
-  pub heard_out : {out output : List ℕ} {a : Answer} {first : ℕ} → Said p [] → Ready s t f → first ≡ first_row s f → a ≡ done no_row h.count a.length
-      → Wrote (sheet_of (entries_of (lent_payload left (first + seat) h.long) (items_of plan))) out output a.length
+  pub heard_out : {out output : List ℕ} {a : Answer} {first : ℕ} → p ≡ [] → Ready s t f → first ≡ first_row s f → a ≡ done no_row h.count a.length
+      → Wrote (sheet_of (entries_of (lent_payload left (first + seat) h.long) plan)) out output a.length
       → HeardOut s f seat input t out m after output left a
   heard_out {out} {output} {a} none ready e k w =
       record {
@@ -174,5 +174,5 @@ module _ {s t m input p plan after left : List ℕ} {f seat : ℕ} {h : Heard} (
         stored = x.did.room;
         wrote =
             wrote-items (payload_by taken.event taken.stream.room) (heard-items none ready)
-            (subst (λ (l : List ℕ). Wrote (sheet_of (entries_of l (items_of plan))) out output a.length) (payload-is e) w);
+            (subst (λ (l : List ℕ). Wrote (sheet_of (entries_of l plan)) out output a.length) (payload-is e) w);
       }

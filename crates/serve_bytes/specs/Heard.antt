@@ -3,6 +3,7 @@
 use Rattle.std.specs.Prelude.{ℕ, ◌+◌, ◌*◌, ◌≡◌, List}
 use Rattle.octets.specs.Parts.{part}
 use Rattle.octets.specs.Put.{put_at}
+use Rattle.kinds.specs.declared.Item.{Item}
 use Rattle.sheet.specs.Rows.{first_row}
 use Rattle.outsheet.specs.Sheet.{sheet_of}
 use Rattle.outsheet.specs.Replies.{entries_of}
@@ -38,7 +39,7 @@ pub record OnlyRoom (s : List ℕ) (f seat : ℕ) (m after : List ℕ) : Type 0 
   pub put : after ≡ put_at m (room_at s f seat) (room s f seat after)
 
 -- in the table and the assembling buffer
-pub record HeardAt (s : List ℕ) (f seat : ℕ) (input p t m plan after left : List ℕ) (r : Heard) : Type 0 where
+pub record HeardAt (s : List ℕ) (f seat : ℕ) (input : List ℕ) (p : List Item) (t m : List ℕ) (plan : List Item) (after left : List ℕ) (r : Heard) : Type 0 where
   pub only : Only f t after
   pub only_room : OnlyRoom s f seat m left
   pub did :

@@ -5,7 +5,6 @@ ghost use Rattle.std.specs.Prelude.{◌≡◌, false, ◌<◌, ◌≤◌, length
 ghost use Rattle.sheet.specs.Rows.{rows_owned};
 ghost use Rattle.model.specs.Row.{row_at, is_waiting};
 ghost use Rattle.model.specs.Table.{assembling_size};
-ghost use Rattle.plan.specs.Plan.{PlanOk};
 ghost use Rattle.outsheet.specs.Contracts.{least_output};
 ghost use Rattle.table.specs.Block.{farm_of};
 ghost use Rattle.site.specs.Site.{Sited};
@@ -16,7 +15,7 @@ ghost use Rattle.serve_bytes.specs.Heard.{HeardAt, HeardOut};
 use farm_bytes::Heard;
 use kinds::{FarmNo, Site};
 use lent::Answer;
-use plan::PLAN;
+use plan::Plan;
 use sheet::rows;
 use table::BLOCK;
 
@@ -26,7 +25,7 @@ const ROOM: usize = 2048;
 // The farm's block and the row's room are lent alone: "stored at its place in its row's 2,048; nothing else there ever changes".
 fn bytes_at(
     t: &mut [u8],
-    p: &mut [u8],
+    p: &mut Plan,
     m: &mut [u8],
     s: &[u8],
     f: FarmNo,
@@ -34,7 +33,7 @@ fn bytes_at(
     seat: usize,
     input: &[u8],
 ) -> Heard
-    requires { Ready s.now t.old f.0 × Sited s.now f.0 site × (seat < rows_owned s.now f.0) × (is_waiting (row_at (farm_of (block t.old f.0)).rows seat) ≡ false) × (length m.old ≡ assembling_size) × PlanOk p.old }
+    requires { Ready s.now t.old f.0 × Sited s.now f.0 site × (seat < rows_owned s.now f.0) × (is_waiting (row_at (farm_of (block t.old f.0)).rows seat) ≡ false) × (length m.old ≡ assembling_size) }
     ensures { HeardAt s.now f.0 seat input.now p.old t.old m.old p.new t.new m.new result }
 {
     let a = (f.0 as usize) * BLOCK;
@@ -58,11 +57,9 @@ pub fn take(
     ensures { HeardOut s.now f.0 seat input.now t.old out.old m.old t.new out.new m.new result }
 {
     let site = site::site_of(s, f);
-    let mut space = [0; PLAN];
-    let p: &mut [u8] = &mut space;
-    plan::empty(p);
-    let heard = bytes_at(t, p, m, s, f, site, seat, input);
+    let mut p = Plan::new();
+    let heard = bytes_at(t, &mut p, m, s, f, site, seat, input);
     let a = (octets::wide(site.first) + seat) * ROOM;
     let e = a + heard.long;
-    finish::finish(out, p, &m[a..e], finish::NO_ROW, heard.count)
+    finish::finish(out, &p, &m[a..e], finish::NO_ROW, heard.count)
 }

@@ -3,7 +3,6 @@
 
 ghost use Rattle.std.specs.Prelude.{◌≡◌, ◌<◌, ◌≤◌, length};
 ghost use Rattle.sheet.specs.Sheet.{most_farms};
-ghost use Rattle.plan.specs.Plan.{PlanOk};
 ghost use Rattle.outsheet.specs.Contracts.{least_output};
 ghost use Rattle.table.specs.Layout.{table_size};
 ghost use Rattle.table.specs.Block.{farm_of};
@@ -15,13 +14,13 @@ ghost use Rattle.serve.specs.Moved.{MessageOut};
 
 use kinds::{FarmNo, Site};
 use lent::Answer;
-use plan::PLAN;
+use plan::Plan;
 use table::BLOCK;
 
 // The farm's block is lent alone.
 fn message_at(
     t: &[u8],
-    p: &mut [u8],
+    p: &mut Plan,
     s: &[u8],
     f: FarmNo,
     site: Site,
@@ -29,7 +28,7 @@ fn message_at(
     to: u16,
     user: &[u8],
 ) -> u8
-    requires { (f.0 < most_farms) × (length t.now ≡ table_size) × Sited s.now f.0 site × PlanOk p.old }
+    requires { (f.0 < most_farms) × (length t.now ≡ table_size) × Sited s.now f.0 site }
     ensures { Messaged s.now f.0 (farm_of (block t.now f.0)) p.old p.new from to user.now result }
 {
     let a = (f.0 as usize) * BLOCK;
@@ -51,12 +50,10 @@ pub fn send(
     ensures { MessageOut s.now f.0 (farm_of (block t.now f.0)) from to user.now out.old out.new result }
 {
     let site = site::site_of(s, f);
-    let mut space = [0; PLAN];
-    let p: &mut [u8] = &mut space;
-    plan::empty(p);
-    let n = message_at(t, p, s, f, site, from, to, user);
+    let mut p = Plan::new();
+    let n = message_at(t, &mut p, s, f, site, from, to, user);
     if 0 < n {
         return finish::refused(n);
     }
-    finish::finish(out, p, user, finish::NO_ROW, 0)
+    finish::finish(out, &p, user, finish::NO_ROW, 0)
 }

@@ -1,11 +1,10 @@
 // A datagram's reply, with the output sheet.
 #![tactic(auto)]
 
-ghost use Rattle.std.specs.Prelude.{[], ◌≤◌, length};
+ghost use Rattle.std.specs.Prelude.{◌≡◌, [], ◌≤◌, length};
 ghost use Rattle.datagram.specs.Datagram.{answer_to};
 ghost use Rattle.sheet.specs.Sheet.{farm_record};
 ghost use Rattle.model.specs.Move.{answers, open_rows};
-ghost use Rattle.plan.specs.Plan.{Said};
 ghost use Rattle.outsheet.specs.Contracts.{least_output};
 ghost use Rattle.table.specs.Block.{farm_of};
 ghost use Rattle.lent.specs.Lent.{block};
@@ -15,26 +14,23 @@ ghost use Rattle.serve.specs.Moved.{SaidOut};
 use closing::say::VERSION;
 use kinds::{FarmNo, Item, Reply, RowNo};
 use lent::Answer;
-use plan::PLAN;
+use plan::Plan;
 use serve::at;
 use sheet::farms;
 
 // "A datagram's reply has row 255."
-fn push_answer(p: &mut [u8], a: Option<Reply>)
-    requires { Said p.old [] }
-    ensures { Said p.new (answers a) }
+fn push_answer(p: &mut Plan, a: Option<Reply>)
+    requires { p.old ≡ [] }
+    ensures { p.new ≡ answers a }
 {
     match a {
         None => {}
         Some(reply) => {
-            plan::push(
-                p,
-                Item {
-                    row: RowNo(finish::NO_ROW),
-                    version: VERSION,
-                    reply: reply,
-                },
-            );
+            p.push(Item {
+                row: RowNo(finish::NO_ROW),
+                version: VERSION,
+                reply,
+            });
         }
     }
 }
@@ -46,9 +42,7 @@ pub fn reply(s: &[u8], t: &[u8], out: &mut [u8], f: FarmNo, input: &[u8]) -> Ans
     let farm = farms::record_of(s, f);
     let n = at::open_rows(t, f);
     let a = datagram_answer::answer(input, farm, n as u8);
-    let mut space = [0; PLAN];
-    let p: &mut [u8] = &mut space;
-    plan::empty(p);
-    push_answer(p, a);
-    finish::finish(out, p, farm, finish::NO_ROW, 0)
+    let mut p = Plan::new();
+    push_answer(&mut p, a);
+    finish::finish(out, &p, farm, finish::NO_ROW, 0)
 }

@@ -17,7 +17,6 @@ use Rattle.kinds.specs.declared.Item.{Item}
 use Rattle.kinds.specs.declared.Site.{Site}
 use Rattle.sheet.specs.Sheet.{most_farms, farm_count}
 use Rattle.sheet.proofs.Order.{le_or_lt}
-use Rattle.plan.specs.Plan.{items_of, Said}
 use Rattle.model.specs.FarmSheet.{FarmSheet, farm_sheet, slot_sheet}
 use Rattle.model.specs.Farm.{Farm}
 use Rattle.model.specs.Move.{Held, Move, refused, no_row, ticked, tick_move}
@@ -64,13 +63,12 @@ module _ {s t : List ℕ} (all : AllReady s t) where
         good = subst (λ (b : List ℕ). Good (farm_sheet s n) (farm_of b)) same (all.each n h).good;
       }
 
-  pub ticked-none : {p : List ℕ} → Said p [] → TickedTo s t 0 p t
+  pub ticked-none : {p : List Item} → p ≡ [] → TickedTo s t 0 p t
   unfolding ticks_to up_to
   ticked-none none =
       record {
         farms = record { each = λ f h. absurd (omega (arith, h)); rest = λ f h. refl; long = all.long };
-        said = none.is ∙ sym (pushed_none []);
-        ok = none.ok;
+        said = none ∙ sym (pushed_none []);
       }
 
 ticks-more : (s t : List ℕ) (n : ℕ) → ticks_to s t n ++ (farm_tick s t n).items ≡ ticks_to s t (n + 1)
@@ -96,7 +94,7 @@ module _ {s t : List ℕ} where
           (λ (k : f < n). subst (λ (b : List ℕ). Holds b (farm_tick s t f).farm) (sym (other f (λ e. omega (arith, e, k)))) (x.each f k))
           (eq-or-lt_of_le (let le : f ≤ n = omega (arith, l) in le))
 
-  pub ticked-more : {p mid plan after : List ℕ} (n : ℕ) (site : Site) → n < most_farms → Sited s n site → TickedTo s t n p mid
+  pub ticked-more : {p plan : List Item} {mid after : List ℕ} (n : ℕ) (site : Site) → n < most_farms → Sited s n site → TickedTo s t n p mid
       → DidAt n (ticked (site_sheet site) (farm_of (block mid n))) p mid plan after → TickedTo s t (n + 1) plan after
   ticked-more {mid = mid} n site h sited x d =
       let same : ticked (site_sheet site) (farm_of (block mid n)) ≡ farm_tick s t n =
@@ -110,10 +108,9 @@ module _ {s t : List ℕ} where
             ∙ ap (λ (i : List Item). pushed_all i (farm_tick s t n).items) x.said
             ∙ pushed_append [] (ticks_to s t n) (farm_tick s t n).items
             ∙ ap (pushed_all []) (ticks-more s t n);
-        ok = own.did.ok;
       }
 
-  pub ticked-all : {plan after : List ℕ} {n k : ℕ} → TickedTo s t n plan after → n ≡ k → TickedTo s t k plan after
+  pub ticked-all : {plan : List Item} {after : List ℕ} {n k : ℕ} → TickedTo s t n plan after → n ≡ k → TickedTo s t k plan after
   ticked-all {plan} {after} x e = subst (λ (i : ℕ). TickedTo s t i plan after) e x
 
 -- ---- slot by slot, as the model says it
@@ -204,7 +201,7 @@ module _ {s t : List ℕ} (all : AllReady s t) where
       (called-small s (slots_from (held_at s t []) 0 (farm_count s)) all.sheet (goods 0 (farm_count s) (omega arith)) tick)
 
   -- so the plan says them all
-  pub ticked-items : {plan after : List ℕ} → TickedTo s t (farm_count s) plan after → items_of plan ≡ ticks_to s t (farm_count s)
+  pub ticked-items : {plan : List Item} {after : List ℕ} → TickedTo s t (farm_count s) plan after → plan ≡ ticks_to s t (farm_count s)
   ticked-items x = x.said ∙ pushed_first (ticks_to s t (farm_count s)) ticks-small.few
 
 -- ---- the call

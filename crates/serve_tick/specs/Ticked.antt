@@ -6,7 +6,6 @@ use Rattle.kinds.specs.declared.Item.{Item}
 use Rattle.sheet.specs.Sheet.{farm_count}
 use Rattle.outsheet.specs.Sheet.{sheet_of}
 use Rattle.outsheet.specs.Replies.{entries_of}
-use Rattle.plan.specs.Plan.{items_of, PlanOk}
 use Rattle.outsheet.specs.Contracts.{Wrote}
 use Rattle.model.specs.FarmSheet.{farm_sheet}
 use Rattle.model.specs.Farm.{Done}
@@ -33,10 +32,9 @@ pub record Farms (s t : List ℕ) (n : ℕ) (after : List ℕ) : Type 0 where
   pub long : length after ≡ table_size
 
 -- and the plan says their entries, one farm's behind the other's
-pub record TickedTo (s t : List ℕ) (n : ℕ) (plan after : List ℕ) : Type 0 where
+pub record TickedTo (s t : List ℕ) (n : ℕ) (plan : List Item) (after : List ℕ) : Type 0 where
   pub farms : Farms s t n after
-  pub said : items_of plan ≡ pushed_all [] (ticks_to s t n)
-  pub ok : PlanOk plan
+  pub said : plan ≡ pushed_all [] (ticks_to s t n)
 
 pub record TickedOut (s t out after output : List ℕ) (a : Answer) : Type 0 where
   pub answer : a ≡ done no_row 0 a.length

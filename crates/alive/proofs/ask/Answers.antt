@@ -7,13 +7,10 @@ use Rattle.closing.proofs.DidLaws.{did_start, did_seat, did-all}
 use Rattle.alive.proofs.ask.Goals as goal
 
 pub loop-i-init : goal.loop-i-init
-loop-i-init c = (did_start _ _ _ c.requires.1 c.requires.2, omega arith)
+loop-i-init c = (did_start _ _ _ c.requires.1, omega arith)
 
 pub loop-i-preserved : goal.loop-i-preserved
 loop-i-preserved c = (did_seat _ _ _ c.loop-i.invariant.0 c.ask_if.ensures, omega arith)
-
-pub shape_of-p : goal.shape_of-p
-shape_of-p c = c.loop-i.invariant.0.ok.long ∙ sym c.requires.2.long
 
 pub returns : goal.returns
 unfolding seat_count

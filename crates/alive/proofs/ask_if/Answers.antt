@@ -19,4 +19,4 @@ pub returns-else-asks : goal.returns-else-asks
 returns-else-asks c =
     let s = c.args in
     did_same _ (sym (asked_no (site_sheet s.site) s.check s.i (farm_of s.b.now) (sym c.asks.ensures ∙ c.if-asks.false)))
-    (did_nothing s.p.now s.b.now c.requires.2 c.requires.3)
+    (did_nothing s.p.now s.b.now c.requires.2)

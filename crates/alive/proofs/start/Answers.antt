@@ -19,7 +19,7 @@ returns-then-waiting-eq0 c =
     let f : Farm = farm_of c.args.b.now in
     let k = c.clear.ensures in
     let e : length f.line ≡ 0 = ap (λ (x : Farm). length x.line) (sym k.is) ∙ sym c.waiting.ensures ∙ c.if-waiting-eq0.true in
-    did_same _ (sym (started_none (site_sheet c.args.site) f e)) (did-quietly k c.requires.2)
+    did_same _ (sym (started_none (site_sheet c.args.site) f e)) (did-quietly k)
 
 pub returns : goal.returns
 returns c =

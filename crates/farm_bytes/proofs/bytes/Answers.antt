@@ -44,7 +44,7 @@ event-requires c = let f : Farm = farm_of c.args.b.now in
     let right : EndsWell (event_of c.take-t.result.event) =
     subst (λ (t : Taken). EndsWell t.event) (sym tk) (takes-right (stream_of (row_at f.rows c.args.seat).place (row_at f.rows c.args.seat).head c.args.room.now) c.args.input.now (c.requires.3.possible c.args.seat))
     in
-    (c.requires.0, subst (λ (l : List ℕ). length l < seats) (sym line) room, long, right, c.requires.2, h.whole, c.requires.6)
+    (c.requires.0, subst (λ (l : List ℕ). length l < seats) (sym line) room, long, right, c.requires.2, h.whole)
 
 pub settle-requires : goal.settle-requires
 settle-requires c = let f : Farm = farm_of c.args.b.now in
@@ -56,7 +56,7 @@ settle-requires c = let f : Farm = farm_of c.args.b.now in
     subst (λ (x : Farm). Seated x.line) (sym e.is)
     (event_sits own c.args.seat c.requires.0 (farm_of c.hear.new.b) (subst Seated (sym line) (good_seated c.requires.3)) _ _)
     in
-    (sits, sited_fit _ _ _ c.requires.2, e.whole, e.ok)
+    (sits, sited_fit _ _ _ c.requires.2, e.whole)
 
 pub returns : goal.returns
 returns c = let f : Farm = farm_of c.args.b.now in

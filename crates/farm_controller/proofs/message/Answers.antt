@@ -16,26 +16,26 @@ returns-then-not-size_fits c = let a = c.args in
     let farm = farm_of a.b.now in
     let own : FarmSheet = farm_sheet a.s.now a.f.0 in
     messaged-refused a.s.now a.f.0 farm a.p.now a.from a.to a.user.now 9
-    (λ rooms. wrong_size own (record { farm = farm; rooms = rooms }) a.from a.to a.user.now (sym c.size_fits.ensures ∙ c.if-not-size_fits.true)) c.requires.2
+    (λ rooms. wrong_size own (record { farm = farm; rooms = rooms }) a.from a.to a.user.now (sym c.size_fits.ensures ∙ c.if-not-size_fits.true))
 
 pub returns-then-not-is_target : goal.returns-then-not-is_target
 returns-then-not-is_target c = let a = c.args in
     let farm = farm_of a.b.now in
     let own : FarmSheet = farm_sheet a.s.now a.f.0 in
     messaged-refused a.s.now a.f.0 farm a.p.now a.from a.to a.user.now 10
-    (λ rooms. no_target own (record { farm = farm; rooms = rooms }) a.from a.to a.user.now (sym c.size_fits.ensures ∙ c.if-not-size_fits.false) (sym c.is_target.ensures ∙ c.if-not-is_target.true)) c.requires.2
+    (λ rooms. no_target own (record { farm = farm; rooms = rooms }) a.from a.to a.user.now (sym c.size_fits.ensures ∙ c.if-not-size_fits.false) (sym c.is_target.ensures ∙ c.if-not-is_target.true))
 
 pub returns-in_default : goal.returns-in_default
 returns-in_default c = let a = c.args in
     let farm = farm_of a.b.now in
     let own : FarmSheet = farm_sheet a.s.now a.f.0 in
     messaged-refused a.s.now a.f.0 farm a.p.now a.from a.to a.user.now 10
-    (λ rooms. for_tester own (record { farm = farm; rooms = rooms }) a.from a.to a.user.now (sym c.size_fits.ensures ∙ c.if-not-size_fits.false) (sym c.is_target.ensures ∙ c.if-not-is_target.false) None (sym c.holder.ensures ∙ c.in_default.is)) c.requires.2
+    (λ rooms. for_tester own (record { farm = farm; rooms = rooms }) a.from a.to a.user.now (sym c.size_fits.ensures ∙ c.if-not-size_fits.false) (sym c.is_target.ensures ∙ c.if-not-is_target.false) None (sym c.holder.ensures ∙ c.in_default.is))
 
 pub say-requires : goal.say-requires
 say-requires c = let a = c.args in
     let k = found_below (active_as a.to) 0 (farm_of a.b.now).rows _ (sym c.holder.ensures ∙ c.in-Some.is) in
-    (omega (arith, k, nine a.b.now), sited_fit a.s.now a.f.0 a.site c.requires.1, c.requires.2)
+    (omega (arith, k, nine a.b.now), sited_fit a.s.now a.f.0 a.site c.requires.1)
 
 pub returns : goal.returns
 returns c = let a = c.args in

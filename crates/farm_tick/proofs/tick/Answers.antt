@@ -26,7 +26,7 @@ settle-requires c = let own : FarmSheet = site_sheet c.args.site in
     ∙ ap (λ (x : Farm). x.line) c.run_clock.ensures.is
     ∙ clock-line f.line f
     in
-    (subst Seated (sym e) c.requires.0, c.requires.1, w.whole, w.ok)
+    (subst Seated (sym e) c.requires.0, c.requires.1, w.whole)
 
 pub returns : goal.returns
 unfolding ticked

@@ -4,4 +4,4 @@ use Rattle.finish.proofs.AnswerLaws.{room-none}
 use Rattle.finish.proofs.finish_empty.Goals as goal
 
 pub finish_short-requires : goal.finish_short-requires
-finish_short-requires c = room-none _ _ c.empty.ensures c.requires
+finish_short-requires c = room-none _ _ c.new-p.ensures c.requires

@@ -36,4 +36,4 @@ returns-else-n-eq0 c =
     ∙ ap (λ (x : Farm). with_line x (x.line ++ (c.args.seat ∷ []))) (c.put_row.ensures.is ∙ ap (with_row f c.args.seat) c.row_of.ensures)
     in
     let some : length f.line ≡ 0 → ⊥ = λ z. c.if-n-eq0.false (c.waiting-n.ensures ∙ z) in
-    did_same _ (sym (joined-behind own c.args.seat c.args.q f some)) (did-quietly (record { is = k; whole = c.join.ensures.whole }) c.requires.4)
+    did_same _ (sym (joined-behind own c.args.seat c.args.q f some)) (did-quietly (record { is = k; whole = c.join.ensures.whole }))

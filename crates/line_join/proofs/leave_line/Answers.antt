@@ -14,7 +14,7 @@ pub returns-then-n-eq0 : goal.returns-then-n-eq0
 returns-then-n-eq0 c =
     let own : FarmSheet = site_sheet c.args.site in
     let f : Farm = farm_of c.args.b.now in
-    did_same _ (sym (left-none own c.args.seat f (sym c.waiting-n.ensures ∙ c.if-n-eq0.true))) (did_nothing c.args.p.now c.args.b.now c.requires.1 c.requires.2)
+    did_same _ (sym (left-none own c.args.seat f (sym c.waiting-n.ensures ∙ c.if-n-eq0.true))) (did_nothing c.args.p.now c.args.b.now c.requires.1)
 
 pub returns-then-seat-head : goal.returns-then-seat-head
 returns-then-seat-head c =
@@ -28,4 +28,4 @@ returns c =
     let own : FarmSheet = site_sheet c.args.site in
     let f : Farm = farm_of c.args.b.now in
     let some : length f.line ≡ 0 → ⊥ = λ z. c.if-n-eq0.false (c.waiting-n.ensures ∙ z) in
-    did_same _ (sym (left_behind own c.args.seat f some (λ z. c.if-seat-head.false (z ∙ sym c.seat_at-head.ensures)))) (did-quietly c.leave.ensures c.requires.2)
+    did_same _ (sym (left_behind own c.args.seat f some (λ z. c.if-seat-head.false (z ∙ sym c.seat_at-head.ensures)))) (did-quietly c.leave.ensures)

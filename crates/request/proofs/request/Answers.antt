@@ -16,7 +16,7 @@ pub decision-d-requires : goal.decision-d-requires
 decision-d-requires c = (c.requires.2, c.requires.3.long)
 
 pub carry_out-requires : goal.carry_out-requires
-carry_out-requires c = (c.requires.0, c.requires.1, sited_fit _ _ _ c.requires.2, c.requires.3, c.requires.4)
+carry_out-requires c = (c.requires.0, c.requires.1, sited_fit _ _ _ c.requires.2, c.requires.3)
 
 pub returns : goal.returns
 unfolding requested

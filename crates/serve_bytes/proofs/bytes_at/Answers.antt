@@ -39,7 +39,6 @@ bytes-requires c = let back : block c.args.t.now c.args.f.0 ≡ lent_block c.arg
   subst (λ (b : List ℕ). Good (farm_sheet c.args.s.now c.args.f.0) (farm_of b)) back c.requires.0.good,
   subst (λ (b : List ℕ). is_waiting (row_at (farm_of b).rows c.args.seat) ≡ false) back c.requires.3,
   subst Whole back c.requires.0.whole,
-  c.requires.5,
 )
 
 pub returns : goal.returns

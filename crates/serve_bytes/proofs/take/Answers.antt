@@ -21,10 +21,10 @@ slice_bounds-finish-end c = let x = c.bytes_at-heard.ensures in
     omega (arith, row_few c.requires.0 c.requires.1 (first-is c.site_of-site.ensures c.wide.ensures), x.did.short, c.requires.3, only-long x.only_room (room_within c.requires.0 c.requires.1 c.args.m.now c.requires.3))
 
 pub finish-requires : goal.finish-requires
-finish-requires c = heard-room c.bytes_at-heard.ensures c.empty.ensures c.requires.0 _ _ c.requires.4
+finish-requires c = heard-room c.bytes_at-heard.ensures c.new-p.ensures c.requires.0 _ _ c.requires.4
 
 pub returns : goal.returns
 unfolding no_row
 returns c =
-    heard_out c.bytes_at-heard.ensures c.empty.ensures c.requires.0 (first-is c.site_of-site.ensures c.wide.ensures)
+    heard_out c.bytes_at-heard.ensures c.new-p.ensures c.requires.0 (first-is c.site_of-site.ensures c.wide.ensures)
     c.finish.ensures.value c.finish.ensures.wrote

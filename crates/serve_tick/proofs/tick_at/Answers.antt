@@ -4,7 +4,6 @@ use mathlib.Core.Path.{sym, subst}
 use mathlib.Core.List.{List}
 use Prim.Native.Nat.{ℕ}
 use Rattle.model.specs.Move.{ticked}
-use Rattle.plan.specs.Plan.{PlanOk}
 use Rattle.table.specs.Block.{farm_of, Whole}
 use Rattle.decide.specs.SiteSheet.{site_sheet}
 use Rattle.closing.specs.Did.{RowsFit, Seated}
@@ -15,8 +14,8 @@ use Rattle.farm_tick.proofs.tick.Reads as tick-reads
 use Rattle.serve_tick.proofs.tick_at.Goals as goal
 
 pub tick-requires : goal.tick-requires
-tick-requires c = subst (λ (b : List ℕ). Seated (farm_of b).line × RowsFit c.args.site × Whole b × PlanOk c.args.p.now) (sym (lent_is c.args.t.now c.args.f))
-    (c.requires.2, c.requires.3, c.requires.4, c.requires.5)
+tick-requires c = subst (λ (b : List ℕ). Seated (farm_of b).line × RowsFit c.args.site × Whole b) (sym (lent_is c.args.t.now c.args.f))
+    (c.requires.2, c.requires.3, c.requires.4)
 
 pub returns : goal.returns
 returns c = did-lent _ _ _ _ c.args.f (ticked (site_sheet c.args.site)) c.requires.1 c.requires.0 c.tick.ensures

@@ -29,7 +29,7 @@ site_of-site-requires c = (c.requires.0.sheet, omega (arith, c.loop-i-test.true,
 
 pub tick_at-requires : goal.tick_at-requires
 tick_at-requires c = let r = ready_still c.requires.0 c.loop-i.invariant.0.farms (omega (arith, c.loop-i-test.true, c.farm_count-n.ensures)) in
-    (ready_below r, r.long, good_seated r.good, sited_fit _ _ _ c.site_of-site.ensures, r.whole, c.loop-i.invariant.0.ok)
+    (ready_below r, r.long, good_seated r.good, sited_fit _ _ _ c.site_of-site.ensures, r.whole)
 
 pub overflow_add-i : goal.overflow_add-i
 overflow_add-i c = omega (arith, c.loop-i-test.true, c.farm_count-n.ensures, c.requires.0.sheet.head.farms_at_most)
@@ -42,9 +42,6 @@ loop-i-preserved c = (ticked-more c.loop-i.i _ (omega (arith, c.loop-i-test.true
 
 pub shape_of-t : goal.shape_of-t
 shape_of-t c = c.loop-i.invariant.0.farms.long ∙ sym c.requires.0.long
-
-pub shape_of-p : goal.shape_of-p
-shape_of-p c = c.loop-i.invariant.0.ok.long ∙ sym c.requires.1.ok.long
 
 pub returns : goal.returns
 returns c = ticked-all c.loop-i.invariant.0 (omega (arith, c.loop-i.invariant.1, c.loop-i-test.false, c.farm_count-n.ensures))

@@ -9,73 +9,61 @@ use Rattle.octets.specs.Put.{put_at}
 use Rattle.kinds.specs.declared.Item.{Item}
 use Rattle.outsheet.specs.Sheet.{Entry, entry_bytes}
 use Rattle.outsheet.specs.Replies.{entry_of, entries_of}
-use Rattle.plan.specs.Plan.{item_at, items_of, no_item}
-use Rattle.plan.proofs.PlanLaws.{items_few, item_said}
+use Rattle.plan.specs.Plan.{no_item}
 use Rattle.outsheet.proofs.SheetLaws.{none_laid, first-place, all_laid, next_place, turn_fits, entry-fits, turn}
 use Rattle.sheet_writer.proofs.put_entries.Goals as goal
-
-abbrev entries : List ℕ → List ℕ → List Entry
-entries long p = entries_of long (items_of p)
 
 -- what stands past the last entry
 abbrev past : List ℕ → Entry
 past long = entry_of long no_item
 
 -- the entry that the item at i says
-told : (long p : List ℕ) (i : ℕ) (it : Item) → i < length (entries long p) → it ≡ item_at p i
-    → entry_of long it ≡ get_or (entries long p) i (past long)
+told : (long : List ℕ) (p : List Item) (i : ℕ) (it : Item) → i < length (entries_of long p) → (i < length p → it ≡ get_or p i no_item)
+    → entry_of long it ≡ get_or (entries_of long p) i (past long)
 told long p i it h e =
     let entry = entry_of long in
-    let items = items_of p in
-    let said = item_said p i (omega (arith, h, length-map items entry)) in
-    ap entry (e ∙ sym said) ∙ sym (get_or-map entry items i no_item)
-
-pub count-n-requires : goal.count-n-requires
-count-n-requires c = c.requires.ok
+    ap entry (e (omega (arith, h, length-map p entry))) ∙ sym (get_or-map entry p i no_item)
 
 pub overflow_mul-at : goal.overflow_mul-at
-overflow_mul-at c = omega (arith, items_few c.args.p.now, c.count-n.ensures)
+overflow_mul-at c = omega (arith, c.len-n.ensures.few)
 
 pub overflow_add-at : goal.overflow_add-at
-overflow_add-at c = omega (arith, items_few c.args.p.now, c.count-n.ensures)
+overflow_add-at c = omega (arith, c.len-n.ensures.few)
 
 pub loop-i-init : goal.loop-i-init
 loop-i-init c =
-    let es = entries c.args.long.now c.args.p.now in
-    let n : c.count-n.result ≡ length es = c.count-n.ensures ∙ sym (length-map (items_of c.args.p.now) (entry_of c.args.long.now)) in
+    let es = entries_of c.args.long.now c.args.p.now in
+    let n : c.len-n.result ≡ length es = c.len-n.ensures.is ∙ sym (length-map c.args.p.now (entry_of c.args.long.now)) in
     (n, omega arith, ap (λ (k : ℕ). 4 + 2 * k) n ∙ sym (first-place es), none_laid es c.args.out.now, refl)
 
 pub overflow_cast-at : goal.overflow_cast-at
 overflow_cast-at c =
     let l = c.loop-i in
-    let es = entries c.args.long.now c.args.p.now in
+    let es = entries_of c.args.long.now c.args.p.now in
     let h = turn_fits es l.i (past c.args.long.now) (omega (arith, l.invariant.0, c.loop-i-test.true)) in
     omega (arith, l.invariant.2, h, c.requires.short)
 
 pub write16-requires : goal.write16-requires
 write16-requires c = omega (arith, c.requires.short, c.requires.wide, c.loop-i.invariant.0, c.loop-i.invariant.4)
 
-pub item_at-it-requires : goal.item_at-it-requires
-item_at-it-requires c =
-    let n = length-map (items_of c.args.p.now) (entry_of c.args.long.now) in
-    let few = items_few c.args.p.now in
-    omega (arith, c.requires.ok.long, n, few, c.loop-i.invariant.0, c.loop-i-test.true)
+pub item-requires : goal.item-requires
+item-requires c = omega (arith, c.len-n.ensures.few, c.loop-i-test.true)
 
 pub put_entry-at-requires : goal.put_entry-at-requires
 put_entry-at-requires c =
     let l = c.loop-i in
-    let more : l.i < length (entries c.args.long.now c.args.p.now) = omega (arith, l.invariant.0, c.loop-i-test.true) in
-    entry-fits (entries c.args.long.now c.args.p.now) l.i (past c.args.long.now) more _ l.at _ c.requires.short (omega (arith, c.requires.wide, c.write16.auto.out, l.invariant.4)) l.invariant.2 (told c.args.long.now c.args.p.now l.i _ more c.item_at-it.ensures)
+    let more : l.i < length (entries_of c.args.long.now c.args.p.now) = omega (arith, l.invariant.0, c.loop-i-test.true) in
+    entry-fits (entries_of c.args.long.now c.args.p.now) l.i (past c.args.long.now) more _ l.at _ c.requires.short (omega (arith, c.requires.wide, c.write16.auto.out, l.invariant.4)) l.invariant.2 (told c.args.long.now c.args.p.now l.i _ more c.item.ensures)
 
 pub loop-i-preserved : goal.loop-i-preserved
 loop-i-preserved c =
     let a = c.args in
     let l = c.loop-i in
-    let es = entries c.args.long.now c.args.p.now in
+    let es = entries_of c.args.long.now c.args.p.now in
     let put = c.put_entry-at in
     let write = c.write16 in
     let more : l.i < length es = omega (arith, l.invariant.0, c.loop-i-test.true) in
-    let e = told c.args.long.now c.args.p.now l.i _ more c.item_at-it.ensures in (
+    let e = told c.args.long.now c.args.p.now l.i _ more c.item.ensures in (
       l.invariant.0,
       omega (arith, c.loop-i-test.true),
       omega (arith, put.ensures.place, l.invariant.2, ap (λ (x : Entry). length x.bytes) e, next_place es l.i (past c.args.long.now) more),
@@ -90,4 +78,4 @@ shape_of-out c = c.loop-i.invariant.4
 pub returns : goal.returns
 returns c =
     let l = c.loop-i in
-    all_laid (entries c.args.long.now c.args.p.now) c.args.out.now l.out l.at l.i (omega (arith, l.invariant.0, l.invariant.1, c.loop-i-test.false)) l.invariant.2 l.invariant.3
+    all_laid (entries_of c.args.long.now c.args.p.now) c.args.out.now l.out l.at l.i (omega (arith, l.invariant.0, l.invariant.1, c.loop-i-test.false)) l.invariant.2 l.invariant.3

@@ -18,4 +18,4 @@ pub returns-else-closes : goal.returns-else-closes
 returns-else-closes c =
     let s = c.args in
     did_same _ (sym (closes_no (site_sheet s.site) (closes_by s.what s.m) s.i (farm_of s.b.now) (sym c.closes.ensures ∙ c.if-closes.false)))
-    (did_nothing s.p.now s.b.now c.requires.2 c.requires.3)
+    (did_nothing s.p.now s.b.now c.requires.2)

@@ -7,16 +7,13 @@ use Rattle.closing.proofs.DidLaws.{did_start, did_seat, did-all}
 use Rattle.closing.proofs.close.close_where.Goals as goal
 
 pub loop-i-init : goal.loop-i-init
-loop-i-init c = (did_start _ _ _ c.requires.1 c.requires.2, omega arith)
+loop-i-init c = (did_start _ _ _ c.requires.1, omega arith)
 
 pub loop-i-preserved : goal.loop-i-preserved
 loop-i-preserved c = (did_seat _ _ _ c.loop-i.invariant.0 c.close_if.ensures, omega arith)
 
 pub shape_of-b : goal.shape_of-b
 shape_of-b c = c.loop-i.invariant.0.whole.long ∙ sym c.requires.1.long
-
-pub shape_of-p : goal.shape_of-p
-shape_of-p c = c.loop-i.invariant.0.ok.long ∙ sym c.requires.2.long
 
 pub returns : goal.returns
 unfolding seat_count

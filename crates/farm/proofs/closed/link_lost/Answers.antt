@@ -16,4 +16,4 @@ returns c = let o = c.close_open in
     let h : Holds c.clear.new.b (cleared (with_line (farm_of o.new.b) [])) =
     record { is = w.is ∙ ap cleared c.clear_line.ensures.is; whole = w.whole }
     in
-    did_then _ (λ (g : Farm). quietly (cleared (with_line g []))) o.ensures (did-quietly h o.ensures.ok)
+    did_then _ (λ (g : Farm). quietly (cleared (with_line g []))) o.ensures (did-quietly h)

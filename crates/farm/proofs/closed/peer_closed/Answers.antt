@@ -19,7 +19,7 @@ settle-requires c = let own : FarmSheet = site_sheet c.args.site in
     let g : Farm = farm_of c.close.new.b in
     let w = c.leave_line.ensures in
     let e : g.line ≡ f.line = ap (λ (x : Farm). x.line) c.close.ensures.is ∙ closed-line own c.args.seat f in
-    (subst Seated (ap (λ (x : Farm). x.line) (sym w.is)) (left_seated own c.args.seat g (subst Seated (sym e) c.requires.1)), c.requires.2, w.whole, w.ok)
+    (subst Seated (ap (λ (x : Farm). x.line) (sym w.is)) (left_seated own c.args.seat g (subst Seated (sym e) c.requires.1)), c.requires.2, w.whole)
 
 pub returns : goal.returns
 unfolding peer_gone

@@ -28,7 +28,7 @@ advance_line-decide_head-requires t c =
     let rest : List ℕ = drop 1 f.line in
     let e : (farm_of c.advance.new.b).line ≡ rest = ap (λ (x : Farm). x.line) a.is ∙ advanced-line own rest f in (
       omega (arith, ap length e, length-drop 1 f.line, c.decreases, c.requires.0),
-      (subst Seated (sym e) (seated_rest f.line c.requires.1), c.requires.2, a.whole, a.ok),
+      (subst Seated (sym e) (seated_rest f.line c.requires.1), c.requires.2, a.whole),
     )
 
 pub advance_line-returns : goal.advance_line-returns
@@ -45,7 +45,7 @@ decide_head-returns-then-n-eq0 t c =
     let own : FarmSheet = site_sheet c.args.site in
     let f : Farm = farm_of c.args.b.now in
     did_same _ (sym (settle-none own f f.line (sym c.waiting-n.ensures ∙ c.if-n-eq0.true)))
-    (did_nothing c.args.p.now c.args.b.now c.requires.2 c.requires.3)
+    (did_nothing c.args.p.now c.args.b.now c.requires.2)
 
 -- the head is not decided yet
 pub decide_head-returns-then-is_pending : goal.decide_head-returns-then-is_pending
@@ -59,7 +59,7 @@ decide_head-returns-then-is_pending t c =
     ∙ sym c.is_pending.ensures
     ∙ c.if-is_pending.true
     in
-    did_same _ (sym (settle_pending own f f.line some v)) (did_nothing c.args.p.now c.args.b.now c.requires.2 c.requires.3)
+    did_same _ (sym (settle_pending own f f.line some v)) (did_nothing c.args.p.now c.args.b.now c.requires.2)
 
 pub decide_head-advance_line-requires : goal.decide_head-advance_line-requires
 decide_head-advance_line-requires t c =
@@ -75,7 +75,6 @@ decide_head-advance_line-requires t c =
         subst Seated (sym e) c.requires.0,
         c.requires.1,
         w.whole,
-        w.ok,
       ),
     )
 

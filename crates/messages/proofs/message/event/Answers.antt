@@ -15,16 +15,16 @@ use Rattle.messages.proofs.LengthLaws.{finished-right}
 use Rattle.messages.proofs.message.event.Goals as goal
 
 pub fault-requires : goal.fault-requires
-fault-requires c = (c.requires.0, sited_fit _ _ _ c.requires.4, c.requires.5, c.requires.6)
+fault-requires c = (c.requires.0, sited_fit _ _ _ c.requires.4, c.requires.5)
 
 pub message-requires : goal.message-requires
-message-requires c = (c.requires.0, c.requires.1, c.requires.2, finished-right c.in-Finished.is c.requires.3, c.requires.4, c.requires.5, c.requires.6)
+message-requires c = (c.requires.0, c.requires.1, c.requires.2, finished-right c.in-Finished.is c.requires.3, c.requires.4, c.requires.5)
 
 pub returns-in-InputEnded : goal.returns-in-InputEnded
 unfolding event_done
 returns-in-InputEnded c = let own : FarmSheet = farm_sheet c.args.s.now c.args.f.0 in
     let f : Farm = farm_of c.args.b.now in
-    did_same _ (sym (ap (λ (x : Event). event_done own c.args.seat (event_of x) c.args.room.now f) c.in-InputEnded.is)) (did_nothing c.args.p.now c.args.b.now c.requires.5 c.requires.6)
+    did_same _ (sym (ap (λ (x : Event). event_done own c.args.seat (event_of x) c.args.room.now f) c.in-InputEnded.is)) (did_nothing c.args.p.now c.args.b.now c.requires.5)
 
 pub returns-in-Wrong : goal.returns-in-Wrong
 returns-in-Wrong c = let own : FarmSheet = farm_sheet c.args.s.now c.args.f.0 in
@@ -41,4 +41,4 @@ pub returns-in-Skipped : goal.returns-in-Skipped
 unfolding event_done
 returns-in-Skipped c = let own : FarmSheet = farm_sheet c.args.s.now c.args.f.0 in
     let f : Farm = farm_of c.args.b.now in
-    did_same _ (sym (ap (λ (x : Event). event_done own c.args.seat (event_of x) c.args.room.now f) c.in-Skipped.is)) (did_nothing c.args.p.now c.args.b.now c.requires.5 c.requires.6)
+    did_same _ (sym (ap (λ (x : Event). event_done own c.args.seat (event_of x) c.args.room.now f) c.in-Skipped.is)) (did_nothing c.args.p.now c.args.b.now c.requires.5)

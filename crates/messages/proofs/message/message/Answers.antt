@@ -48,7 +48,7 @@ returns-then-kind-eq8 c = let own : FarmSheet = farm_sheet c.args.s.now c.args.f
     (ap quietly (marked_same (site_sheet c.args.site) own (sited_same _ _ _ c.requires.4) c.args.seat c.address_of-a.result f)
     ∙ ap (λ (a : ℕ). quietly (marked own c.args.seat a f)) c.address_of-a.ensures
     ∙ is-response own c.args.seat c.args.kind payload f c.if-kind-eq5.false c.if-kind-eq8.true)
-    (did-quietly c.mark_row.ensures c.requires.6)
+    (did-quietly c.mark_row.ensures)
 
 pub slice_bounds-ends_of-end : goal.slice_bounds-ends_of-end
 slice_bounds-ends_of-end c = sym (payload-length _ _ c.requires.3 c.args.room.now c.requires.2)
@@ -70,4 +70,4 @@ returns-else-kind-eq32769 c = let own : FarmSheet = farm_sheet c.args.s.now c.ar
     let f : Farm = farm_of c.args.b.now in
     let payload : List ℕ = take c.args.size c.args.room.now in
     did_same _ (is_dropped own c.args.seat c.args.kind payload f c.if-kind-eq5.false c.if-kind-eq8.false c.if-kind-eq32769.false)
-    (did_nothing c.args.p.now c.args.b.now c.requires.5 c.requires.6)
+    (did_nothing c.args.p.now c.args.b.now c.requires.5)

@@ -6,7 +6,7 @@ use Rattle.rowwork.proofs.answer.act.Goals as goal
 
 pub returns-in-Pending : goal.returns-in-Pending
 unfolding acted
-returns-in-Pending c = rw c.in-Pending.is (did_nothing c.args.p.now c.args.b.now c.requires.2 c.requires.3)
+returns-in-Pending c = rw c.in-Pending.is (did_nothing c.args.p.now c.args.b.now c.requires.2)
 
 pub returns-in-Answer : goal.returns-in-Answer
 unfolding acted

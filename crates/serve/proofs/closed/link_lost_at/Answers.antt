@@ -4,7 +4,6 @@ use mathlib.Core.Path.{sym, subst}
 use mathlib.Core.List.{List}
 use Prim.Native.Nat.{ℕ}
 use Rattle.model.specs.Move.{link_gone}
-use Rattle.plan.specs.Plan.{PlanOk}
 use Rattle.table.specs.Block.{Whole}
 use Rattle.decide.specs.SiteSheet.{site_sheet}
 use Rattle.closing.specs.Did.{RowsFit}
@@ -13,8 +12,8 @@ use Rattle.serve.proofs.closed.link_lost_at.Goals as goal
 
 pub link_lost-requires : goal.link_lost-requires
 link_lost-requires c =
-    subst (λ (b : List ℕ). RowsFit c.args.site × Whole b × PlanOk c.args.p.now) (sym (lent_is c.args.t.now c.args.f))
-    (c.requires.2, c.requires.3, c.requires.4)
+    subst (λ (b : List ℕ). RowsFit c.args.site × Whole b) (sym (lent_is c.args.t.now c.args.f))
+    (c.requires.2, c.requires.3)
 
 pub returns : goal.returns
 returns c =

@@ -4,7 +4,6 @@ use mathlib.Core.Path.{sym, subst}
 use mathlib.Core.List.{List}
 use Prim.Native.Nat.{ℕ, ◌<◌}
 use Rattle.model.specs.Move.{peer_gone}
-use Rattle.plan.specs.Plan.{PlanOk}
 use Rattle.table.specs.Layout.{seats}
 use Rattle.table.specs.Block.{farm_of, Whole}
 use Rattle.decide.specs.SiteSheet.{site_sheet}
@@ -15,9 +14,9 @@ use Rattle.serve.proofs.closed.peer_closed_at.Goals as goal
 pub peer_closed-requires : goal.peer_closed-requires
 peer_closed-requires c =
     subst
-    (λ (b : List ℕ). (c.args.seat < seats) × Seated (farm_of b).line × RowsFit c.args.site × Whole b × PlanOk c.args.p.now)
+    (λ (b : List ℕ). (c.args.seat < seats) × Seated (farm_of b).line × RowsFit c.args.site × Whole b)
     (sym (lent_is c.args.t.now c.args.f))
-    (c.requires.2, c.requires.3, c.requires.4, c.requires.5, c.requires.6)
+    (c.requires.2, c.requires.3, c.requires.4, c.requires.5)
 
 pub returns : goal.returns
 returns c =
