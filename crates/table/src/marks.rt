@@ -1,6 +1,5 @@
 // "a mark "answered" for each of its at most nine rows, kept by value": passed in, and handed back changed.
 ghost use Rattle.std.specs.Prelude.{◌≡◌, true, ◌<◌, length, set};
-ghost use Rattle.octets.specs.Choice.{one};
 ghost use Rattle.model.specs.Farm.{with_marks};
 ghost use Rattle.model.specs.Line.{is_marked};
 ghost use Rattle.table.specs.Layout.{seats, block_size};
@@ -29,28 +28,12 @@ pub fn marks_at(b: &[u8]) -> [bool; SEATS]
     requires { length b.now ≡ block_size }
     ensures { result ≡ (farm_of b.now).marks }
 {
-    let mut m = [false; SEATS];
-    let mut i = 0;
-    while i < SEATS {
-        m[i] = b[MARKS + i] == 1;
-        i += 1;
-    }
-    m
-}
-
-fn mark_byte(m: bool) -> u8
-    ensures { result ≡ one m }
-{
-    if m { 1 } else { 0 }
+    std::array::from_fn(|seat| mark_at(b, seat))
 }
 
 pub fn put_marks(b: &mut [u8], m: [bool; SEATS])
     requires { Whole b.old }
     ensures { Holds b.new (with_marks (farm_of b.old) m) }
 {
-    let mut i = 0;
-    while i < SEATS {
-        b[MARKS + i] = mark_byte(m[i]);
-        i += 1;
-    }
+    octets::put(b, MARKS, &m.map(u8::from));
 }
