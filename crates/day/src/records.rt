@@ -1,6 +1,6 @@
 // The records of a day's file. Their meaning stands in specs/Records.antt, a definition for each row of the format's table.
 ghost use Rattle.std.specs.Prelude.{◌≡◌, ◌≤◌, length};
-ghost use Rattle.day.specs.Records.{fixed_of_call, fixed_of, connect_in, bytes_in, closed_in, lost_in, datagram_in, controller_in, rooms_in, damage_in, empty_in, record_of, record_in};
+ghost use Rattle.day.specs.Records.{fixed_of_call, fixed_of, none_in, only_in, first_in, controller_in, rooms_in, damage_in, record_of, record_in};
 ghost use Rattle.day.specs.Next.{next_at, Lies};
 
 use kinds::{FarmNo, RowNo};
@@ -30,22 +30,17 @@ pub enum Record {
     Damage(u16),
 }
 
-// "an unknown kind or a wrong number of fields" is bad.
+// A record whose bytes are all there: the bytes that it ends in start at rest, and the next record at next.
 #[derive(Clone, Copy)]
-pub enum Read {
-    Is(Record),
-    Bad,
+pub struct Whole {
+    pub record: Record,
+    pub rest: usize,
+    pub next: usize,
 }
 
-// What stands at a place of the bytes in hand.
+// Why no record is read.
 #[derive(Clone, Copy)]
-pub enum Next {
-    // The bytes that the record ends in start at rest, and the next record at next.
-    Whole {
-        record: Record,
-        rest: usize,
-        next: usize,
-    },
+pub enum Unread {
     // Not all of it is there.
     Cut,
     // "A record with a bad length, an unknown kind or a wrong number of fields".
@@ -65,14 +60,10 @@ fn call_size(c: Call) -> usize
     ensures { result ≡ fixed_of_call c }
 {
     match c {
-        Call::Start => 0,
-        Call::Connect(_) => 1,
-        Call::Bytes(_) => 1,
-        Call::Closed(_) => 1,
-        Call::Lost(_) => 1,
-        Call::Tick => 0,
-        Call::Datagram(_) => 1,
-        Call::Controller(_, _, _) => 5,
+        Call::Start | Call::Tick => 0,
+        Call::Connect(_) | Call::Bytes(_) | Call::Closed(_) | Call::Lost(_) | Call::Datagram(_) =>
+            1,
+        Call::Controller(..) => 5,
     }
 }
 
@@ -82,145 +73,93 @@ fn fixed_size(r: Record) -> usize
     match r {
         Record::Made(c) => call_size(c),
         Record::Sheet => 0,
-        Record::Rooms(_, _) => 8,
+        Record::Rooms(..) => 8,
         Record::Damage(_) => 2,
     }
 }
 
-// A call of no fields.
-fn empty_in(f: &[u8], c: Call) -> Read
-    ensures { result ≡ empty_in f.now c }
+// No field.
+fn none_in(f: &[u8]) -> Option<()>
+    ensures { result ≡ none_in f.now }
 {
-    if f.len() == 0 {
-        return Read::Is(Record::Made(c));
-    }
-    Read::Bad
+    f.is_empty().then_some(())
 }
 
-fn connect_in(f: &[u8]) -> Read
-    ensures { result ≡ connect_in f.now }
+// The one field of one byte.
+fn only_in(f: &[u8]) -> Option<u8>
+    ensures { result ≡ only_in f.now }
 {
-    if f.len() == 1 {
-        return Read::Is(Record::Made(Call::Connect(FarmNo(f[0]))));
+    match f {
+        [b] => Some(*b),
+        _ => None,
     }
-    Read::Bad
 }
 
-fn bytes_in(f: &[u8]) -> Read
-    ensures { result ≡ bytes_in f.now }
+// A field of one byte, and perhaps bytes.
+fn first_in(f: &[u8]) -> Option<u8>
+    ensures { result ≡ first_in f.now }
 {
-    if 1 <= f.len() {
-        return Read::Is(Record::Made(Call::Bytes(RowNo(f[0]))));
-    }
-    Read::Bad
+    f.first().copied()
 }
 
-fn closed_in(f: &[u8]) -> Read
-    ensures { result ≡ closed_in f.now }
-{
-    if f.len() == 1 {
-        return Read::Is(Record::Made(Call::Closed(RowNo(f[0]))));
-    }
-    Read::Bad
-}
-
-fn lost_in(f: &[u8]) -> Read
-    ensures { result ≡ lost_in f.now }
-{
-    if f.len() == 1 {
-        return Read::Is(Record::Made(Call::Lost(FarmNo(f[0]))));
-    }
-    Read::Bad
-}
-
-fn datagram_in(f: &[u8]) -> Read
-    ensures { result ≡ datagram_in f.now }
-{
-    if 1 <= f.len() {
-        return Read::Is(Record::Made(Call::Datagram(FarmNo(f[0]))));
-    }
-    Read::Bad
-}
-
-fn controller_in(f: &[u8]) -> Read
+fn controller_in(f: &[u8]) -> Option<Record>
     ensures { result ≡ controller_in f.now }
 {
-    if 5 <= f.len() {
-        let controller = octets::read16(f, 1);
-        let tester = octets::read16(f, 3);
-        return Read::Is(Record::Made(Call::Controller(FarmNo(f[0]), controller, tester)));
+    if f.len() < 5 {
+        return None;
     }
-    Read::Bad
+    let controller = octets::read16(f, 1);
+    let tester = octets::read16(f, 3);
+    Some(Record::Made(Call::Controller(FarmNo(f[0]), controller, tester)))
 }
 
-fn rooms_in(f: &[u8]) -> Read
+#[tactic(auto, unfolding(crate::specs::Records::rooms_of))]
+fn rooms_in(f: &[u8]) -> Option<Record>
     ensures { result ≡ rooms_in f.now }
 {
     if f.len() != 8 {
-        return Read::Bad;
+        return None;
     }
     let output = octets::read32(f, 0);
-    if MOST_ROOM < output {
-        return Read::Bad;
-    }
     let assembling = octets::read32(f, 4);
-    if MOST_ROOM < assembling {
-        return Read::Bad;
+    if MOST_ROOM < output || MOST_ROOM < assembling {
+        return None;
     }
-    Read::Is(Record::Rooms(output, assembling))
+    Some(Record::Rooms(output, assembling))
 }
 
-fn damage_in(f: &[u8]) -> Read
+fn damage_in(f: &[u8]) -> Option<Record>
     ensures { result ≡ damage_in f.now }
 {
-    if 2 <= f.len() {
-        return Read::Is(Record::Damage(octets::read16(f, 0)));
+    if f.len() < 2 {
+        return None;
     }
-    Read::Bad
+    Some(Record::Damage(octets::read16(f, 0)))
 }
 
 // The kind byte says which fields follow.
-fn record_of(kind: u8, f: &[u8]) -> Read
+#[tactic(auto, unfolding(crate::specs::Records::record_of))]
+fn record_of(kind: u8, f: &[u8]) -> Option<Record>
     ensures { result ≡ record_of kind f.now }
 {
-    if kind == 0 {
-        return Read::Is(Record::Sheet);
+    match kind {
+        0 => Some(Record::Sheet),
+        1 => none_in(f).map(|_| Record::Made(Call::Start)),
+        2 => only_in(f).map(|farm| Record::Made(Call::Connect(FarmNo(farm)))),
+        3 => first_in(f).map(|row| Record::Made(Call::Bytes(RowNo(row)))),
+        4 => only_in(f).map(|row| Record::Made(Call::Closed(RowNo(row)))),
+        5 => only_in(f).map(|farm| Record::Made(Call::Lost(FarmNo(farm)))),
+        6 => none_in(f).map(|_| Record::Made(Call::Tick)),
+        7 => first_in(f).map(|farm| Record::Made(Call::Datagram(FarmNo(farm)))),
+        8 => controller_in(f),
+        9 => rooms_in(f),
+        10 => damage_in(f),
+        _ => None,
     }
-    if kind == 1 {
-        return empty_in(f, Call::Start);
-    }
-    if kind == 2 {
-        return connect_in(f);
-    }
-    if kind == 3 {
-        return bytes_in(f);
-    }
-    if kind == 4 {
-        return closed_in(f);
-    }
-    if kind == 5 {
-        return lost_in(f);
-    }
-    if kind == 6 {
-        return empty_in(f, Call::Tick);
-    }
-    if kind == 7 {
-        return datagram_in(f);
-    }
-    if kind == 8 {
-        return controller_in(f);
-    }
-    if kind == 9 {
-        return rooms_in(f);
-    }
-    if kind == 10 {
-        return damage_in(f);
-    }
-    Read::Bad
 }
 
 // "a kind byte, then its fields, and no byte more": b is the record without its length.
-fn record_in(b: &[u8]) -> Read
+fn record_in(b: &[u8]) -> Option<Record>
     requires { 1 ≤ length b.now }
     ensures { result ≡ record_in b.now }
 {
@@ -228,29 +167,24 @@ fn record_in(b: &[u8]) -> Read
 }
 
 // A length that is bad is bad as soon as its two bytes are there.
-pub fn next_at(s: &[u8], at: usize) -> Next
+#[tactic(auto, unfolding(crate::specs::Next::next_of))]
+pub fn next_at(s: &[u8], at: usize) -> Result<Whole, Unread>
     requires { at ≤ length s.now }
     ensures { (result ≡ next_at s.now at) × Lies result at (length s.now) }
 {
     if s.len() - at < 2 {
-        return Next::Cut;
+        return Err(Unread::Cut);
     }
     let n = octets::read16(s, at) as usize;
-    if n < LEAST {
-        return Next::Bad;
-    }
-    if MOST < n {
-        return Next::Bad;
+    if n < LEAST || MOST < n {
+        return Err(Unread::Bad);
     }
     let start = at + 2;
     if s.len() - start < n {
-        return Next::Cut;
+        return Err(Unread::Cut);
     }
     let next = start + n;
-    let read = record_in(&s[start..next]);
-    let Read::Is(record) = read else {
-        return Next::Bad;
-    };
+    let record = record_in(&s[start..next]).ok_or(Unread::Bad)?;
     let rest = start + 1 + fixed_size(record);
-    Next::Whole { record, rest, next }
+    Ok(Whole { record, rest, next })
 }

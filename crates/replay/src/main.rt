@@ -2,9 +2,8 @@
 // `explain`, tells each call in words.
 #![tactic(auto)]
 
-ghost use Rattle.std.specs.Prelude.{◌≡◌, length};
-
 use say::fault::fail;
+use say::text::Style;
 use std::env::{Env, FillError};
 use std::fs::Files;
 use std::{fs, io};
@@ -18,46 +17,29 @@ const TOO_LONG: i32 = 36;
 
 const NO_TEXT: i32 = 84;
 
-// What the second argument asks for.
-#[derive(Clone, Copy)]
-enum Style {
-    Lines,
-    Words,
-    // No such style.
-    Other,
-}
+// The room for an argument.
+const ROOM: usize = 4096;
 
-// Zeros for an argument.
-fn room() -> [u8; 4096]
-    ensures { 4096 ≡ length result }
-{
-    [0; 4096]
-}
-
-fn asked_for<R: Env>(rt: &R) -> Style {
-    let mut word = room();
+// What the second argument asks for; there is no other style.
+fn asked_for<R: Env>(rt: &R) -> Option<Style> {
+    let mut word = [0; ROOM];
     match rt.arg(2, &mut word) {
-        Ok(n) => {
-            if octets::same(&word[..n], b"explain") {
-                return Style::Words;
-            }
-            Style::Other
-        }
-        Err(FillError::NotPresent) => Style::Lines,
-        Err(FillError::TooLong) => Style::Other,
+        Ok(n) => (word[..n] == *b"explain").then_some(Style::Words),
+        Err(FillError::NotPresent) => Some(Style::Lines),
+        Err(FillError::TooLong) => None,
     }
 }
 
 // "A file that can't be opened or read is named on standard error, and nothing is said on standard output."
 // The name of a file is text.
-fn play<R: Files + Print + Eprint, E: Print>(rt: &R, errors: &E, path: &[u8], in_words: bool) {
+fn play<R: Files + Print + Eprint, E: Print>(rt: &R, errors: &E, path: &[u8], style: Style) {
     let Ok(name) = str::from_utf8(path) else {
         let _ = errors.write_all(path);
         fail(rt, "", io::Error::from_raw_os_error(NO_TEXT));
         return;
     };
     match fs::open(rt, name) {
-        Ok(mut file) => dayfile::play(rt, &mut file, path, in_words),
+        Ok(mut file) => dayfile::play(rt, &mut file, path, style),
         Err(e) => fail(rt, name, e),
     }
 }
@@ -76,18 +58,14 @@ fn refuse<R: Eprint>(rt: &R, why: FillError) {
 }
 
 fn main(rt: HostRuntime) {
-    let mut path = room();
+    let mut path = [0; ROOM];
     let length = match rt.arg(1, &mut path) {
         Ok(n) => n,
-        Err(why) => {
-            refuse(&rt, why);
-            return;
-        }
+        Err(why) => return refuse(&rt, why),
     };
     match asked_for(&rt) {
-        Style::Lines => play(&rt, &rt.stderr(), &path[..length], false),
-        Style::Words => play(&rt, &rt.stderr(), &path[..length], true),
-        Style::Other => {
+        Some(style) => play(&rt, &rt.stderr(), &path[..length], style),
+        None => {
             let _ = eprintln!(rt; "replay: the second argument can only be 'explain'");
         }
     }

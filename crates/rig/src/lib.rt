@@ -5,14 +5,16 @@ ghost use Rattle.std.specs.Prelude.{◌≡◌, ◌≤◌, length};
 ghost use Rattle.day.specs.Next.{RoomsFit};
 ghost use Rattle.lent.specs.Served.{memory, Served};
 ghost use Rattle.rig.specs.Played.{played};
-ghost use Rattle.rig.specs.Kept.{Kept};
-ghost use Rattle.say.specs.Spaces.{space_size, text_size};
+ghost use Rattle.say.specs.Spaces.{space_size};
 
 use day::places;
 use day::records::{Call, Record};
 use lent::Answer;
-use say::calls;
+use say::text::{Style, Text};
 use table::TABLE;
+
+// "each at most 65,536"
+pub const SPACE: usize = 65536;
 
 // How much of each buffer is lent to a call.
 #[derive(Clone, Copy)]
@@ -20,33 +22,21 @@ pub struct Lent {
     pub sheet: usize,
     pub output: usize,
     pub assembling: usize,
+    ghost sheet_within: { sheet ≤ space_size },
+    ghost output_within: { output ≤ space_size },
+    ghost assembling_within: { assembling ≤ space_size },
 }
 
-// What is kept from record to record beside the memory: what is lent, the number of calls, how much of the text is used, and whether the
-// calls are told in words.
-#[derive(Clone, Copy)]
-pub struct Run {
+// The memory that is lent, how much of it, the number of calls, and the text that they are told in: what is kept from record to record.
+#[derive(Drop)]
+pub struct Rig {
+    pub sheet: [u8; SPACE],
+    pub table: [u8; TABLE],
+    pub output: [u8; SPACE],
+    pub assembling: [u8; SPACE],
     pub lent: Lent,
     pub calls: usize,
-    pub used: usize,
-    pub in_words: bool,
-}
-
-// "Before the first records: the sheet is empty [..], the output buffer has 4,096 zero bytes, the assembling buffer the document's exact
-// length".
-pub fn fresh(in_words: bool) -> Run
-    ensures { Kept result }
-{
-    Run {
-        lent: Lent {
-            sheet: 0,
-            output: 4096,
-            assembling: 32768,
-        },
-        calls: 0,
-        used: 0,
-        in_words,
-    }
+    pub text: Text,
 }
 
 // The call, with all that is lent to it.
@@ -74,103 +64,63 @@ fn make(
     }
 }
 
-// A call, and what is written of it.
-fn answer<R: Print + Eprint>(
-    rt: &R,
-    call: Call,
-    rest: &[u8],
-    run: Run,
-    sheet: &[u8],
-    t: &mut [u8; TABLE],
-    out: &mut [u8],
-    m: &mut [u8],
-    text: &mut [u8],
-) -> Run
-    requires { Kept run × (length sheet.now ≡ space_size) × (length out.old ≡ space_size) × (length m.old ≡ space_size) × (length text.old ≡ text_size) }
-    ensures { Kept result }
-{
-    let lent = run.lent;
-    let k = lent.sheet;
-    let o = lent.output;
-    let e = lent.assembling;
-    let a = make(call, rest, &sheet[..k], t, &mut out[..o], &mut m[..e]);
-    let calls = std::num::wrapping_add_usize(run.calls, 1);
-    let used = calls::say_call(
-        rt,
-        text,
-        run.used,
-        run.in_words,
-        calls,
-        call,
-        rest.len(),
-        a,
-        out,
-    );
-    Run {
-        lent,
-        calls,
-        used,
-        in_words: run.in_words,
+impl Rig {
+    // "Before the first records: the sheet is empty [..], the output buffer has 4,096 zero bytes, the assembling buffer the document's
+    // exact length".
+    pub fn fresh(style: Style) -> Rig {
+        Rig {
+            sheet: [0; SPACE],
+            table: [0; TABLE],
+            output: [0; SPACE],
+            assembling: [0; SPACE],
+            lent: Lent {
+                sheet: 0,
+                output: 4096,
+                assembling: 32768,
+            },
+            calls: 0,
+            text: Text::new(style),
+        }
     }
-}
 
-fn lend_sheet(sheet: &mut [u8], rest: &[u8], run: Run) -> Run
-    requires { Kept run × (length sheet.old ≡ space_size) × (length rest.now ≤ space_size) }
-    ensures { Kept result }
-{
-    let lent = run.lent;
-    octets::put(sheet, 0, rest);
-    Run {
-        lent: Lent {
-            sheet: rest.len(),
-            output: lent.output,
-            assembling: lent.assembling,
-        },
-        calls: run.calls,
-        used: run.used,
-        in_words: run.in_words,
+    // A call, and what is written of it.
+    fn answer<R: Print + Eprint>(&mut self, rt: &R, call: Call, rest: &[u8]) {
+        let lent = self.lent;
+        let a = make(
+            call,
+            rest,
+            &self.sheet[..lent.sheet],
+            &mut self.table,
+            &mut self.output[..lent.output],
+            &mut self.assembling[..lent.assembling],
+        );
+        self.calls = self.calls.wrapping_add(1);
+        self.text.say_call(rt, self.calls, call, rest.len(), a, &self.output);
     }
-}
 
-fn lend_rooms(output: u32, assembling: u32, run: Run) -> Run
-    requires { Kept run × (output ≤ space_size) × (assembling ≤ space_size) }
-    ensures { Kept result }
-{
-    let lent = run.lent;
-    Run {
-        lent: Lent {
-            sheet: lent.sheet,
-            output: output as usize,
-            assembling: assembling as usize,
-        },
-        calls: run.calls,
-        used: run.used,
-        in_words: run.in_words,
+    fn lend_sheet(&mut self, rest: &[u8])
+        requires { length rest.now ≤ space_size }
+    {
+        octets::put(&mut self.sheet, 0, rest);
+        self.lent.sheet = rest.len();
     }
-}
 
-// A record, it; rest are the bytes that it ends in.
-pub fn carry_out<R: Print + Eprint>(
-    rt: &R,
-    it: Record,
-    rest: &[u8],
-    run: Run,
-    sheet: &mut [u8],
-    t: &mut [u8; TABLE],
-    out: &mut [u8],
-    m: &mut [u8],
-    text: &mut [u8],
-) -> Run
-    requires { Kept run × RoomsFit it × (length rest.now ≤ space_size) × (length sheet.old ≡ space_size) × (length out.old ≡ space_size) × (length m.old ≡ space_size) × (length text.old ≡ text_size) }
-    ensures { Kept result }
-{
-    match it {
-        Record::Made(call) => answer(rt, call, rest, run, sheet, t, out, m, text),
-        Record::Sheet => lend_sheet(sheet, rest, run),
-        Record::Rooms(o, a) => lend_rooms(o, a, run),
-        Record::Damage(at) => {
-            places::damage(t, at as usize, rest);
-            run
+    fn lend_rooms(&mut self, output: u32, assembling: u32)
+        requires { (output ≤ space_size) × (assembling ≤ space_size) }
+    {
+        self.lent.output = output as usize;
+        self.lent.assembling = assembling as usize;
+    }
+
+    // A record, it; rest are the bytes that it ends in.
+    pub fn carry_out<R: Print + Eprint>(&mut self, rt: &R, it: Record, rest: &[u8])
+        requires { RoomsFit it × (length rest.now ≤ space_size) }
+    {
+        match it {
+            Record::Made(call) => self.answer(rt, call, rest),
+            Record::Sheet => self.lend_sheet(rest),
+            Record::Rooms(output, assembling) => self.lend_rooms(output, assembling),
+            Record::Damage(at) => places::damage(&mut self.table, at as usize, rest),
         }
     }
 }
