@@ -1,28 +1,24 @@
 -- Where an entry lies, by the three tests of `find`.
 -- Assumes nothing.
-use mathlib.Core.Path.{◌≡◌, refl, ap, ◌∙◌}
-use mathlib.Core.Bool.{true}
-use Prim.Native.Nat.{ℕ, ◌+◌, ◌≤◌, ◌<◌}
-use borrow.Author.Tests.{lt-ltb, le-ltb, eqb-true}
-use lib.Dec.{eqb}
-use lib.ListN.{length}
-use mathlib.Core.List.{List}
+use Rattle.std.proofs.Common.{◌≡◌, ℕ, ◌+◌, ◌-◌, ◌≤◌, ◌<◌, true, List, length, take, drop, refl, ap, ◌∙◌, Some, None, arith, lt-ltb, le-ltb, length-drop}
+use Rattle.std.specs.Prelude.{eqb}
+use borrow.Author.Tests.{eqb-true}
+use lib.Seq.{take_all}
 use Rattle.octets.specs.Numbers.{u16_at}
 use Rattle.octets.proofs.ChoiceLaws.{both_left, both_right}
-use Rattle.entries.specs.declared.entry.Spot.TheVariants.{At, Nowhere}
+use Rattle.words.proofs.PickLaws.{yes, no}
 use Rattle.entries.specs.Messages.{is_identity}
 use Rattle.entries.specs.Entries.{spot_of, is_apart}
-use Rattle.words.proofs.PickLaws.{yes, no}
 
-pub spot_short : (n f long : ℕ) → n < f + 4 → Nowhere ≡ spot_of n f long
+pub spot_short : (n f long : ℕ) → n < f + 4 → None ≡ spot_of n f long
 unfolding spot_of
 spot_short n f long h = yes _ (lt-ltb _ _ h) refl
 
-pub spot_cut : (n f long : ℕ) → f + 4 ≤ n → n < f + 4 + long → Nowhere ≡ spot_of n f long
+pub spot_cut : (n f long : ℕ) → f + 4 ≤ n → n < f + 4 + long → None ≡ spot_of n f long
 unfolding spot_of
 spot_cut n f long h k = no _ (le-ltb _ _ h) (yes _ (lt-ltb _ _ k) refl)
 
-pub spot_at : (n f long : ℕ) → f + 4 ≤ n → f + 4 + long ≤ n → At f long ≡ spot_of n f long
+pub spot_at : (n f long : ℕ) → f + 4 ≤ n → f + 4 + long ≤ n → Some (record { from = f; long = long }) ≡ spot_of n f long
 unfolding spot_of
 spot_at n f long h k = no _ (le-ltb _ _ h) (no _ (le-ltb _ _ k) refl)
 
@@ -36,3 +32,10 @@ spot_read s o f long e k =
 pub apart_long : (kind : ℕ) (b : List ℕ) → is_apart kind b ≡ true → length b ≡ 40
 apart_long kind b e =
     eqb-true (length b) 40 (both_left (eqb (length b) 40) (eqb (u16_at b 2) 0x0004) (both_right (eqb kind 1) (is_identity b) e))
+
+-- what is left behind a head, as a pattern takes it
+pub rest_whole : (k : ℕ) (l : List ℕ) → take (length l - k) (drop k l) ≡ drop k l
+rest_whole k l = take_all (length l - k) (drop k l) (omega (arith, length-drop k l))
+
+pub rest_long : (k : ℕ) (l : List ℕ) → length (take (length l - k) (drop k l)) ≡ length l - k
+rest_long k l = ap length (rest_whole k l) ∙ length-drop k l

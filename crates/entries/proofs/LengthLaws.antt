@@ -5,6 +5,7 @@ use Prim.Native.Nat.{ℕ, ◌+◌, ◌-◌, ◌≤◌}
 use native.Mathlib.Omega.{arith}
 use lib.Dec.{eqb, ltb}
 use lib.ListN.{length, get_or, drop, length-append}
+use Rattle.std.specs.Prelude.{Option, Some, None}
 use Rattle.octets.specs.Numbers.{u16_at, u32_at, be16}
 use Rattle.octets.specs.Parts.{part}
 use Rattle.octets.proofs.PartsLaws.{part-short}
@@ -16,7 +17,6 @@ use Rattle.words.specs.Names.{fault_name, activation_name, diagnostic_name, mode
 use Rattle.words.proofs.SaidLaws.{length-letters}
 use Rattle.words.proofs.LengthLaws.{total, pick-short, fill-short, fault_short, activation_short, diagnostic-short, mode_short}
 use Rattle.entries.specs.declared.entry.Spot.{Spot}
-use Rattle.entries.specs.declared.entry.Spot.TheVariants.{At, Nowhere}
 use Rattle.entries.specs.Messages.{unreadable, nack_text, activation_text, alive_text, status_text, mode_text, diagnostic_text}
 use Rattle.entries.specs.Messages.{answered_text, positive_text, negative_text, payload_text, message_text, identity_text, handed_text}
 use Rattle.entries.specs.Entries.{to_text, plain_text, is_apart, what_text, spot_text, spot_in, entry_line}
@@ -223,13 +223,13 @@ to : (r : ℕ) → length (to_text r) ≤ 40
 unfolding to_text total
 to r = pick-short (eqb r 255) _ _ 40 (omega arith) (omega (arith, fill-short (spelled "    row %: ") (decimal r ∷ []), length-decimal r))
 
-spot : (s : List ℕ) (x : Spot) → length (spot_text s x) ≤ most_line - 1
-spot s (At from long) =
-    let row : ℕ = get_or s from 0 in
-    let kind : ℕ = get_or s (from + 1) 0 in
-    let b : List ℕ = part s (from + 4) long in
+spot : (s : List ℕ) (x : Option Spot) → length (spot_text s x) ≤ most_line - 1
+spot s (Some p) =
+    let row : ℕ = get_or s p.from 0 in
+    let kind : ℕ = get_or s (p.from + 1) 0 in
+    let b : List ℕ = part s (p.from + 4) p.long in
     omega (arith, length-append (to_text row) (what_text kind b), to row, what kind b)
-spot s Nowhere = omega arith
+spot s None = omega arith
 
 -- the line of an entry
 pub line-short : (s : List ℕ) (i : ℕ) → length (entry_line s i) ≤ most_line

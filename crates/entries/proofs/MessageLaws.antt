@@ -1,57 +1,57 @@
 -- What the sentences about messages and entries say, in words.
 -- Assumes nothing.
-use mathlib.Core.Path.{◌≡◌, refl, ap, ◌∙◌}
-use mathlib.Core.List.{List, [], ◌∷◌}
-use Prim.Native.Nat.{ℕ}
+use Rattle.std.proofs.Common.{◌≡◌, ℕ, List, [], ◌∷◌, refl, ap, ◌∙◌, arith}
 use Rattle.lines.specs.Text.{decimal}
 use Rattle.words.specs.Said.{spelled}
 use Rattle.words.specs.Book.{phrase, book, fill}
-use Rattle.words.specs.Sentence.{filled, address, code, sentence, sentence_text}
-use Rattle.words.specs.declared.fill.Arg.TheVariants.{Blank, Number, Address, Code, Phrase}
-use Rattle.words.proofs.FillLaws.{holes}
 use Rattle.words.specs.Names.{fault_name, activation_name, diagnostic_name, mode_name}
+use Rattle.words.specs.Sentence.{filled, address, code, sentence, sentence_text}
+use Rattle.words.specs.declared.fill.Arg.TheVariants.{Number, Address, Code, Phrase}
+use Rattle.words.proofs.FillLaws.{holes}
+use Rattle.words.proofs.SentenceLaws.{says, says_plain}
 use Rattle.entries.specs.Messages.{unreadable}
-use Rattle.words.proofs.SentenceLaws.{says_0, says_1, says_2, says_3}
 
-pub odd_says : sentence_text (sentence 39 Blank Blank Blank) ≡ unreadable
+pub odd_says : sentence_text (sentence 39 []) ≡ unreadable
 unfolding phrase book holes
-odd_says = says_0 39 "sent a message that can not be read" refl refl
+odd_says = says_plain 39 "sent a message that can not be read" refl refl
 
-pub nack-says : (c k : ℕ) → phrase k ≡ fault_name c → sentence_text (sentence 30 (Code c) (Phrase k) Blank)
+pub nack-says : (c k : ℕ) → phrase k ≡ fault_name c → sentence_text (sentence 30 (Code c ∷ Phrase k ∷ []))
     ≡ filled "sent header negative acknowledge (0000): code %, %" (code c ∷ fault_name c ∷ [])
 unfolding phrase book
 nack-says c k e =
-    says_2 30 "sent header negative acknowledge (0000): code %, %" (Code c) (Phrase k) refl
+    says 30 "sent header negative acknowledge (0000): code %, %" (Code c ∷ Phrase k ∷ []) refl (omega arith)
     ∙ ap (λ (x : List ℕ). filled "sent header negative acknowledge (0000): code %, %" (code c ∷ x ∷ [])) e
 
 pub activation_says : (t e c k : ℕ) → phrase k ≡ activation_name c
-    → sentence_text (record { phrase = 32; a = Address t; b = Address e; c = Code c; d = Phrase k })
+    → sentence_text (sentence 32 (Address t ∷ Address e ∷ Code c ∷ Phrase k ∷ []))
     ≡ filled "sent routing activation response (0006): tester %, entity %, code %, %" (address t ∷ address e ∷ code c ∷ activation_name c ∷ [])
 unfolding phrase book
 activation_says t e c k h =
     ap (λ (x : List ℕ). filled "sent routing activation response (0006): tester %, entity %, code %, %" (address t ∷ address e ∷ code c ∷ x ∷ [])) h
 
-pub alive-says : sentence_text (sentence 33 Blank Blank Blank) ≡ spelled "sent alive check request (0007)"
+pub alive-says : sentence_text (sentence 33 []) ≡ spelled "sent alive check request (0007)"
 unfolding phrase book holes
-alive-says = says_0 33 "sent alive check request (0007)" refl refl
+alive-says = says_plain 33 "sent alive check request (0007)" refl refl
 
-pub status-says : (q n m : ℕ) → sentence_text (sentence 34 (Number q) (Number n) (Number m))
+pub status-says : (q n m : ℕ) → sentence_text (sentence 34 (Number q ∷ Number n ∷ Number m ∷ []))
     ≡ filled "sent entity status response (4002): places for testers %, rows open %, longest message % bytes" (decimal q ∷ decimal n ∷ decimal m ∷ [])
 unfolding phrase book
-status-says q n m = says_3 34 "sent entity status response (4002): places for testers %, rows open %, longest message % bytes" (Number q) (Number n) (Number m) refl
+status-says q n m = says 34 "sent entity status response (4002): places for testers %, rows open %, longest message % bytes" (Number q ∷ Number n ∷ Number m ∷ []) refl (omega arith)
 
-pub mode_says : (c k : ℕ) → phrase k ≡ mode_name c → sentence_text (sentence 35 (Code c) (Phrase k) Blank)
+pub mode_says : (c k : ℕ) → phrase k ≡ mode_name c → sentence_text (sentence 35 (Code c ∷ Phrase k ∷ []))
     ≡ filled "sent power mode response (4004): %, %" (code c ∷ mode_name c ∷ [])
 unfolding phrase book
-mode_says c k e = says_2 35 "sent power mode response (4004): %, %" (Code c) (Phrase k) refl ∙ ap (λ (x : List ℕ). filled "sent power mode response (4004): %, %" (code c ∷ x ∷ [])) e
+mode_says c k e = says 35 "sent power mode response (4004): %, %" (Code c ∷ Phrase k ∷ []) refl (omega arith) ∙ ap (λ (x : List ℕ). filled "sent power mode response (4004): %, %" (code c ∷ x ∷ [])) e
 
-pub diagnostic-says : (c t n : ℕ) → sentence_text (sentence 36 (Address c) (Address t) (Number n))
-    ≡ filled "sent diagnostic message (8001): from controller % to tester %, user data % bytes" (address c ∷ address t ∷ decimal n ∷ [])
+pub diagnostic-says : (x y : ℕ) {n m : ℕ} → n ≡ m → sentence_text (sentence 36 (Address x ∷ Address y ∷ Number n ∷ []))
+    ≡ filled "sent diagnostic message (8001): from controller % to tester %, user data % bytes" (address x ∷ address y ∷ decimal m ∷ [])
 unfolding phrase book
-diagnostic-says c t n = says_3 36 "sent diagnostic message (8001): from controller % to tester %, user data % bytes" (Address c) (Address t) (Number n) refl
+diagnostic-says x y {n} {m} e =
+    says 36 "sent diagnostic message (8001): from controller % to tester %, user data % bytes" (Address x ∷ Address y ∷ Number n ∷ []) refl (omega arith)
+    ∙ ap (λ (k : ℕ). filled "sent diagnostic message (8001): from controller % to tester %, user data % bytes" (address x ∷ address y ∷ decimal k ∷ [])) e
 
 pub answered-says : (w c t x k : ℕ) → phrase k ≡ diagnostic_name x
-    → sentence_text (record { phrase = w; a = Address c; b = Address t; c = Code x; d = Phrase k })
+    → sentence_text (sentence w (Address c ∷ Address t ∷ Code x ∷ Phrase k ∷ []))
     ≡ fill (phrase w) (address c ∷ address t ∷ code x ∷ diagnostic_name x ∷ [])
 answered-says w c t x k h = ap (λ (l : List ℕ). fill (phrase w) (address c ∷ address t ∷ code x ∷ l ∷ [])) h
 
@@ -63,37 +63,39 @@ pub negative_phrase : phrase 38 ≡ spelled "sent diagnostic negative acknowledg
 unfolding phrase book
 negative_phrase = refl
 
-pub handed_says : (t c n : ℕ) → sentence_text (sentence 41 (Address t) (Address c) (Number n))
-    ≡ filled "handed on: from tester % to controller %, user data % bytes" (address t ∷ address c ∷ decimal n ∷ [])
+pub handed_says : (x y : ℕ) {n m : ℕ} → n ≡ m → sentence_text (sentence 41 (Address x ∷ Address y ∷ Number n ∷ []))
+    ≡ filled "handed on: from tester % to controller %, user data % bytes" (address x ∷ address y ∷ decimal m ∷ [])
 unfolding phrase book
-handed_says t c n = says_3 41 "handed on: from tester % to controller %, user data % bytes" (Address t) (Address c) (Number n) refl
+handed_says x y {n} {m} e =
+    says 41 "handed on: from tester % to controller %, user data % bytes" (Address x ∷ Address y ∷ Number n ∷ []) refl (omega arith)
+    ∙ ap (λ (k : ℕ). filled "handed on: from tester % to controller %, user data % bytes" (address x ∷ address y ∷ decimal k ∷ [])) e
 
-pub odd_payload-says : sentence_text (sentence 42 Blank Blank Blank) ≡ spelled "handed on a payload that can not be read"
+pub odd_payload-says : sentence_text (sentence 42 []) ≡ spelled "handed on a payload that can not be read"
 unfolding phrase book holes
-odd_payload-says = says_0 42 "handed on a payload that can not be read" refl refl
+odd_payload-says = says_plain 42 "handed on a payload that can not be read" refl refl
 
-pub identity_says : (e : ℕ) → sentence_text (sentence 31 (Address e) Blank Blank)
+pub identity_says : (e : ℕ) → sentence_text (sentence 31 (Address e ∷ []))
     ≡ filled "sent vehicle identification response (0004): entity %, VIN " (address e ∷ [])
 unfolding phrase book
-identity_says e = says_1 31 "sent vehicle identification response (0004): entity %, VIN " (Address e) refl
+identity_says e = says 31 "sent vehicle identification response (0004): entity %, VIN " (Address e ∷ []) refl (omega arith)
 
-pub to_sender-says : sentence_text (sentence 46 Blank Blank Blank) ≡ spelled "    datagram: "
+pub to_sender-says : sentence_text (sentence 46 []) ≡ spelled "    datagram: "
 unfolding phrase book holes
-to_sender-says = says_0 46 "    datagram: " refl refl
+to_sender-says = says_plain 46 "    datagram: " refl refl
 
-pub to_row-says : (r : ℕ) → sentence_text (sentence 45 (Number r) Blank Blank)
+pub to_row-says : (r : ℕ) → sentence_text (sentence 45 (Number r ∷ []))
     ≡ filled "    row %: " (decimal r ∷ [])
 unfolding phrase book
-to_row-says r = says_1 45 "    row %: " (Number r) refl
+to_row-says r = says 45 "    row %: " (Number r ∷ []) refl (omega arith)
 
-pub closed-says : sentence_text (sentence 40 Blank Blank Blank) ≡ spelled "closed"
+pub closed-says : sentence_text (sentence 40 []) ≡ spelled "closed"
 unfolding phrase book holes
-closed-says = says_0 40 "closed" refl refl
+closed-says = says_plain 40 "closed" refl refl
 
-pub odd_kind-says : (k : ℕ) → sentence_text (sentence 43 (Number k) Blank Blank)
+pub odd_kind-says : (k : ℕ) → sentence_text (sentence 43 (Number k ∷ []))
     ≡ filled "an entry of an unknown kind, %" (decimal k ∷ [])
 unfolding phrase book
-odd_kind-says k = says_1 43 "an entry of an unknown kind, %" (Number k) refl
+odd_kind-says k = says 43 "an entry of an unknown kind, %" (Number k ∷ []) refl (omega arith)
 
 pub odd_entry-phrase : phrase 44 ≡ spelled "    an entry that can not be read"
 unfolding phrase book

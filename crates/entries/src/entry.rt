@@ -1,5 +1,6 @@
 // The lines of a call's entries.
-ghost use Rattle.std.specs.Prelude.{◌≡◌, [], ◌∷◌, ◌++◌, ◌+◌, ◌≤◌, length};
+ghost use Rattle.std.specs.Prelude.{◌≡◌, [], ◌∷◌, ◌++◌, ◌+◌, ◌≤◌, ◌<◌, length, MatchOption};
+ghost use Rattle.octets.specs.Numbers.{u16_at};
 ghost use Rattle.words.specs.Said.{Said};
 ghost use Rattle.words.specs.Sentence.{sentence_text};
 ghost use Rattle.entries.specs.Entries.{count_in, spot_in, Lies, to_text, plain_text, is_apart, what_text, entry_text, spot_text, entry_line};
@@ -8,95 +9,83 @@ use crate::message;
 use words::fill::{Arg, Sentence, with};
 use words::{book, fill, put};
 
-// Where an entry lies: the place at which it begins, and how many bytes it has after its row, its kind and their number.
+// Where an entry lies within its sheet: the place at which it begins, and how many bytes it has after its row, its kind and their number.
 #[derive(Clone, Copy)]
-pub enum Spot {
-    At { from: usize, long: usize },
-    // Not within the sheet.
-    Nowhere,
+pub struct Spot {
+    pub from: usize,
+    pub long: usize,
 }
 
 // "u16 entry count"
 pub fn count(s: &[u8]) -> u16
     ensures { result ≡ count_in s.now }
 {
-    if s.len() < 2 {
-        return 0;
+    match *s {
+        [high, low, ..] => u16::from_be_bytes([high, low]),
+        _ => 0,
     }
-    octets::read16(s, 0)
 }
 
-fn find(s: &[u8], i: u16) -> Spot
+// The u16 at a place, where there is one.
+fn number(s: &[u8], at: usize) -> Option<usize>
+    requires { at < 4294967296 }
+    ensures { MatchOption result (length s.now < at + 2) (λ x. (at + 2 ≤ length s.now) × (x ≡ u16_at s.now at)) }
+{
+    if s.len() < at + 2 {
+        return None;
+    }
+    Some(octets::read16(s, at) as usize)
+}
+
+// Where it lies, if it lies within the sheet.
+fn find(s: &[u8], i: u16) -> Option<Spot>
     ensures { (result ≡ spot_in s.now i) × Lies result (length s.now) }
 {
-    let offset = 2 * (i as usize) + 4;
-    if s.len() < offset + 2 {
-        return Spot::Nowhere;
-    }
-    let from = octets::read16(s, offset) as usize;
-    if s.len() < from + 4 {
-        return Spot::Nowhere;
-    }
-    let long = octets::read16(s, from + 2) as usize;
+    let from = number(s, 2 * (i as usize) + 4)?;
+    let long = number(s, from + 2)?;
     if s.len() < from + 4 + long {
-        return Spot::Nowhere;
+        return None;
     }
-    Spot::At { from, long }
+    Some(Spot { from, long })
 }
 
 // "A datagram's reply has row 255."
 fn to(row: u8) -> Sentence
     ensures { sentence_text result ≡ to_text row }
 {
-    if row == 255 {
-        return with(book::TO_SENDER, Arg::Blank, Arg::Blank, Arg::Blank);
+    match row {
+        255 => with(book::TO_SENDER, &[]),
+        _ => with(book::TO_ROW, &[Arg::Number(row as usize)]),
     }
-    with(
-        book::TO_ROW,
-        Arg::Number(row as usize),
-        Arg::Blank,
-        Arg::Blank,
-    )
 }
 
 // "Kinds: 1 send, 2 close (empty), 3 hand on."
 fn what(kind: u8, b: &[u8]) -> Sentence
     ensures { sentence_text result ≡ plain_text kind b.now }
 {
-    if kind == 1 {
-        return message::message(b);
+    match kind {
+        1 => message::message(b),
+        2 => with(book::CLOSED, &[]),
+        3 => message::handed_on(b),
+        _ => with(book::ODD_KIND, &[Arg::Number(kind as usize)]),
     }
-    if kind == 2 {
-        return with(book::CLOSED, Arg::Blank, Arg::Blank, Arg::Blank);
-    }
-    if kind == 3 {
-        return message::handed_on(b);
-    }
-    with(
-        book::ODD_KIND,
-        Arg::Number(kind as usize),
-        Arg::Blank,
-        Arg::Blank,
-    )
 }
 
 // A vehicle identification response is said apart.
 fn is_apart(kind: u8, b: &[u8]) -> bool
     ensures { result ≡ is_apart kind b.now }
 {
-    if kind == 1 {
-        return message::is_identity(b);
-    }
-    false
+    kind == 1 && message::is_identity(b)
 }
 
 fn put_what(out: &mut [u8], at: usize, kind: u8, b: &[u8]) -> usize
     ensures { Said (what_text kind b.now) out.old out.new at result }
 {
     if is_apart(kind, b) {
-        return message::put_identity(out, at, b);
+        message::put_identity(out, at, b)
+    } else {
+        fill::say(out, at, what(kind, b))
     }
-    fill::say(out, at, what(kind, b))
 }
 
 fn put_entry(out: &mut [u8], at: usize, row: u8, kind: u8, b: &[u8]) -> usize
@@ -106,16 +95,16 @@ fn put_entry(out: &mut [u8], at: usize, row: u8, kind: u8, b: &[u8]) -> usize
     put_what(out, p, kind, b)
 }
 
-fn put_spot(out: &mut [u8], at: usize, s: &[u8], spot: Spot) -> usize
+fn put_spot(out: &mut [u8], at: usize, s: &[u8], spot: Option<Spot>) -> usize
     requires { Lies spot (length s.now) }
     ensures { Said (spot_text s.now spot) out.old out.new at result }
 {
     match spot {
-        Spot::At { from, long } => {
+        Some(Spot { from, long }) => {
             let start = from + 4;
             put_entry(out, at, s[from], s[from + 1], &s[start..start + long])
         }
-        Spot::Nowhere => book::phrase(out, at, book::ODD_ENTRY),
+        None => book::phrase(out, at, book::ODD_ENTRY),
     }
 }
 

@@ -1,5 +1,6 @@
 // What is said of a message that is sent, and of a payload that is handed on.
-ghost use Rattle.std.specs.Prelude.{◌≡◌, length};
+ghost use Rattle.std.specs.Prelude.{◌≡◌, [], ◌∷◌, length};
+ghost use Rattle.octets.specs.Numbers.{u16_at};
 ghost use Rattle.words.specs.Book.{phrase};
 ghost use Rattle.words.specs.Said.{Said};
 ghost use Rattle.words.specs.Sentence.{sentence_text};
@@ -13,194 +14,159 @@ use words::{book, fill, names, put};
 fn odd() -> Sentence
     ensures { sentence_text result ≡ unreadable }
 {
-    with(book::ODD_MESSAGE, Arg::Blank, Arg::Blank, Arg::Blank)
+    with(book::ODD_MESSAGE, &[])
+}
+
+fn address(high: u8, low: u8) -> Arg
+    ensures { result ≡ Arg.Address (u16_at (high ∷ low ∷ []) 0) }
+{
+    Arg::Address(u16::from_be_bytes([high, low]))
 }
 
 fn nack(p: &[u8]) -> Sentence
     ensures { sentence_text result ≡ nack_text p.now }
 {
-    if p.len() == 1 {
-        let c = p[0];
-        return with(
-            book::NACK,
-            Arg::Code(c),
-            Arg::Phrase(names::fault(c)),
-            Arg::Blank,
-        );
+    match *p {
+        [c] => with(book::NACK, &[Arg::Code(c), Arg::Phrase(names::fault(c))]),
+        _ => odd(),
     }
-    odd()
 }
 
 fn activation(p: &[u8]) -> Sentence
     ensures { sentence_text result ≡ activation_text p.now }
 {
-    if p.len() == 9 {
-        let tester = octets::read16(p, 0);
-        let entity = octets::read16(p, 2);
-        let c = p[4];
-        return Sentence {
-            phrase: book::ACTIVATION,
-            a: Arg::Address(tester),
-            b: Arg::Address(entity),
-            c: Arg::Code(c),
-            d: Arg::Phrase(names::activation(c)),
-        };
+    match *p {
+        [t0, t1, e0, e1, c, _, _, _, _] => with(
+            book::ACTIVATION,
+            &[
+                address(t0, t1),
+                address(e0, e1),
+                Arg::Code(c),
+                Arg::Phrase(names::activation(c)),
+            ],
+        ),
+        _ => odd(),
     }
-    odd()
 }
 
 fn alive_check(p: &[u8]) -> Sentence
     ensures { sentence_text result ≡ alive_text p.now }
 {
-    if p.len() == 0 {
-        return with(book::ALIVE_CHECK, Arg::Blank, Arg::Blank, Arg::Blank);
+    if p.is_empty() {
+        with(book::ALIVE_CHECK, &[])
+    } else {
+        odd()
     }
-    odd()
 }
 
 fn status(p: &[u8]) -> Sentence
     ensures { sentence_text result ≡ status_text p.now }
 {
-    if p.len() == 7 {
-        let places = octets::wide(p[1]);
-        let opened = octets::wide(p[2]);
-        let longest = octets::read32(p, 3) as usize;
-        return with(
+    match *p {
+        [_, places, opened, a, b, c, d] => with(
             book::STATUS,
-            Arg::Number(places),
-            Arg::Number(opened),
-            Arg::Number(longest),
-        );
+            &[
+                Arg::Number(places as usize),
+                Arg::Number(opened as usize),
+                Arg::Number(u32::from_be_bytes([a, b, c, d]) as usize),
+            ],
+        ),
+        _ => odd(),
     }
-    odd()
 }
 
 fn power_mode(p: &[u8]) -> Sentence
     ensures { sentence_text result ≡ mode_text p.now }
 {
-    if p.len() == 1 {
-        let c = p[0];
-        return with(
+    match *p {
+        [c] => with(
             book::POWER_MODE,
-            Arg::Code(c),
-            Arg::Phrase(names::mode(c)),
-            Arg::Blank,
-        );
+            &[Arg::Code(c), Arg::Phrase(names::mode(c))],
+        ),
+        _ => odd(),
     }
-    odd()
 }
 
 fn diagnostic(p: &[u8]) -> Sentence
     ensures { sentence_text result ≡ diagnostic_text p.now }
 {
-    if p.len() < 4 {
-        return odd();
+    match *p {
+        [c0, c1, t0, t1, ref data @ ..] => with(
+            book::MESSAGE,
+            &[address(c0, c1), address(t0, t1), Arg::Number(data.len())],
+        ),
+        _ => odd(),
     }
-    let controller = octets::read16(p, 0);
-    let tester = octets::read16(p, 2);
-    with(
-        book::MESSAGE,
-        Arg::Address(controller),
-        Arg::Address(tester),
-        Arg::Number(p.len() - 4),
-    )
 }
 
 // The answer to a diagnostic message: the phrase says which of the two.
 fn answered(p: &[u8], which: usize) -> Sentence
     ensures { sentence_text result ≡ answered_text (phrase which) p.now }
 {
-    if p.len() == 5 {
-        let controller = octets::read16(p, 0);
-        let tester = octets::read16(p, 2);
-        let c = p[4];
-        return Sentence {
-            phrase: which,
-            a: Arg::Address(controller),
-            b: Arg::Address(tester),
-            c: Arg::Code(c),
-            d: Arg::Phrase(names::diagnostic(c)),
-        };
+    match *p {
+        [c0, c1, t0, t1, c] => with(
+            which,
+            &[
+                address(c0, c1),
+                address(t0, t1),
+                Arg::Code(c),
+                Arg::Phrase(names::diagnostic(c)),
+            ],
+        ),
+        _ => odd(),
     }
-    odd()
 }
 
 // The type says which.
 fn payload(kind: u16, p: &[u8]) -> Sentence
     ensures { sentence_text result ≡ payload_text kind p.now }
 {
-    if kind == 0x0000 {
-        return nack(p);
+    match kind {
+        0x0000 => nack(p),
+        0x0006 => activation(p),
+        0x0007 => alive_check(p),
+        0x4002 => status(p),
+        0x4004 => power_mode(p),
+        0x8001 => diagnostic(p),
+        0x8002 => answered(p, book::POSITIVE),
+        0x8003 => answered(p, book::NEGATIVE),
+        _ => odd(),
     }
-    if kind == 0x0006 {
-        return activation(p);
-    }
-    if kind == 0x0007 {
-        return alive_check(p);
-    }
-    if kind == 0x4002 {
-        return status(p);
-    }
-    if kind == 0x4004 {
-        return power_mode(p);
-    }
-    if kind == 0x8001 {
-        return diagnostic(p);
-    }
-    if kind == 0x8002 {
-        return answered(p, book::POSITIVE);
-    }
-    if kind == 0x8003 {
-        return answered(p, book::NEGATIVE);
-    }
-    odd()
 }
 
 pub fn message(b: &[u8]) -> Sentence
     ensures { sentence_text result ≡ message_text b.now }
 {
-    if b.len() < 8 {
-        return odd();
+    match *b {
+        [_, _, k0, k1, _, _, _, _, ref p @ ..] => payload(u16::from_be_bytes([k0, k1]), p),
+        _ => odd(),
     }
-    payload(octets::read16(b, 2), &b[8..])
 }
 
 pub fn handed_on(p: &[u8]) -> Sentence
     ensures { sentence_text result ≡ handed_text p.now }
 {
-    if p.len() < 4 {
-        return with(book::ODD_PAYLOAD, Arg::Blank, Arg::Blank, Arg::Blank);
+    match *p {
+        [t0, t1, c0, c1, ref data @ ..] => with(
+            book::HANDED_ON,
+            &[address(t0, t1), address(c0, c1), Arg::Number(data.len())],
+        ),
+        _ => with(book::ODD_PAYLOAD, &[]),
     }
-    let tester = octets::read16(p, 0);
-    let controller = octets::read16(p, 2);
-    with(
-        book::HANDED_ON,
-        Arg::Address(tester),
-        Arg::Address(controller),
-        Arg::Number(p.len() - 4),
-    )
 }
 
 // A vehicle identification response, which has bytes that no sentence holds.
 pub fn is_identity(b: &[u8]) -> bool
     ensures { result ≡ is_identity b.now }
 {
-    if b.len() == 40 {
-        return octets::read16(b, 2) == 0x0004;
-    }
-    false
+    b.len() == 40 && octets::read16(b, 2) == 0x0004
 }
 
 pub fn put_identity(out: &mut [u8], at: usize, b: &[u8]) -> usize
     requires { length b.now ≡ 40 }
     ensures { Said (identity_text b.now) out.old out.new at result }
 {
-    let s = with(
-        book::IDENTITY,
-        Arg::Address(octets::read16(b, 25)),
-        Arg::Blank,
-        Arg::Blank,
-    );
+    let s = with(book::IDENTITY, &[address(b[25], b[26])]);
     let p = fill::say(out, at, s);
     let q = put::letters_of(out, p, &b[8..25]);
     let r = put::words_bytes(out, q, b", EID ", &b[27..33]);

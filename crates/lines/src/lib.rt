@@ -5,6 +5,8 @@ ghost use Rattle.std.specs.Prelude.{◌≡◌, ◌++◌, ◌+◌, ◌*◌, ◌�
 ghost use Rattle.lines.specs.Text.{decimal, most_digits, Wrote};
 ghost use Rattle.lines.specs.Lines.{most_counts, most_farm_line, most_last_line, counts_text, sheet_text, answer_line, farm_line, last_word, last_line};
 
+use kinds::Meters;
+
 pub mod text; // text.rt: numbers as digits, bytes as hexadecimal
 
 // How the file ended.
@@ -50,13 +52,13 @@ fn put_sheet(out: &mut [u8], at: usize, number: u8, sheet: &[u8]) -> usize
     requires { at + (2 * length sheet.now + 1) ≤ length out.old }
     ensures { Wrote (sheet_text number sheet.now) out.old out.new at result }
 {
-    if number == 0 {
-        return text::put_hex(out, at, sheet);
+    match number {
+        0 => text::put_hex(out, at, sheet),
+        _ => put_words(out, at, b"-"),
     }
-    put_words(out, at, b"-")
 }
 
-// The line of a call.
+// The line of a call. The answer's fields come one by one: they are one in the crate lent, which stands on the table, and a line needs none.
 pub fn put_answer(
     out: &mut [u8],
     at: usize,
@@ -74,14 +76,14 @@ pub fn put_answer(
 }
 
 // The line of a farm.
-pub fn put_farm(out: &mut [u8], at: usize, f: usize, taken: u32, finished: u32, lost: u32) -> usize
+pub fn put_farm(out: &mut [u8], at: usize, f: usize, m: Meters) -> usize
     requires { at + most_farm_line ≤ length out.old }
-    ensures { Wrote (farm_line f taken finished lost) out.old out.new at result }
+    ensures { Wrote (farm_line f m.taken m.finished m.lost) out.old out.new at result }
 {
     let a = put_named(out, at, b"farm ", f);
-    let b = put_named(out, a, b" taken ", taken as usize);
-    let c = put_named(out, b, b" finished ", finished as usize);
-    let d = put_named(out, c, b" lost ", lost as usize);
+    let b = put_named(out, a, b" taken ", m.taken as usize);
+    let c = put_named(out, b, b" finished ", m.finished as usize);
+    let d = put_named(out, c, b" lost ", m.lost as usize);
     put_words(out, d, b"\n")
 }
 

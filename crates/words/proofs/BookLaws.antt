@@ -1,85 +1,56 @@
--- Laws of the phrase book: its phrases are the lines of its page, and each is short.
+-- Laws of the phrase book: a phrase by its place among texts that are lent, and each phrase is short.
 -- Assumes nothing.
-use mathlib.Core.Path.{◌≡◌, refl, ap, ◌∙◌}
-use mathlib.Core.Bool.{Bool, true, false}
-use mathlib.Core.List.{List, [], ◌∷◌, ◌++◌}
-use Prim.Native.Nat.{ℕ, zero, suc, ◌≤◌}
+use Rattle.std.proofs.Common.{◌≡◌, ℕ, zero, suc, ◌≤◌, ◌<◌, Bool, true, false, List, [], ◌∷◌, length, get_or, map, refl, sym, ap, ◌∙◌, arith, Bor}
+use Rattle.std.specs.Prelude.{leb, ltb}
+use Rattle.std.proofs.lemmas.List.{get_or-map, get_or_past, length-map}
 use Prim.Native.String.{String}
-use native.Mathlib.Omega.{arith}
-use lib.Dec.{T, eqb, leb, leb→le}
-use lib.ListN.{length, get_or}
-use Rattle.octets.specs.Choice.{pick}
+use borrow.Author.Tests.{leb-true, ltb-true, ltb-false}
+use Rattle.octets.specs.Choice.{both}
+use Rattle.octets.proofs.ChoiceLaws.{both_left, both_right}
 use Rattle.words.specs.Said.{spelled}
-use Rattle.words.specs.Book.{first, rest, below, line_in, page, book, phrase}
+use Rattle.words.specs.Book.{book, phrase, text_in}
 
--- no newline, and at most so many characters
-plain : List ℕ → Bool
-plain [] = true
-plain (c ∷ t) = pick (eqb c 10) false (plain t)
+-- a text that is there, and one that is not
+pub text-at : (l : List (Bor (List ℕ))) (k : ℕ) (x : Bor (List ℕ)) → true ≡ ltb k (length l) → x ≡ get_or l k x → x.now ≡ text_in l k
+unfolding text_in
+text-at l k x h e =
+    let fits : k < length l = ltb-true k (length l) (sym h) in
+    ap (λ (y : Bor (List ℕ)). y.now) e ∙ sym (get_or-map (λ (y : Bor (List ℕ)). y.now) l k x [] fits)
+
+pub text_past : (l : List (Bor (List ℕ))) (k : ℕ) → false ≡ ltb k (length l) → [] ≡ text_in l k
+unfolding text_in
+text_past l k h =
+    let past : length l ≤ k = ltb-false k (length l) (sym h) in
+    sym (get_or_past (map (λ (y : Bor (List ℕ)). y.now) l) k [] (omega (arith, length-map l (λ (y : Bor (List ℕ)). y.now))))
+
+-- the texts of the book
+pub text-phrase : (l : List (Bor (List ℕ))) (k : ℕ) → map (λ (x : Bor (List ℕ)). x.now) l ≡ map spelled book → text_in l k ≡ phrase k
+unfolding text_in phrase
+text-phrase l k e = ap (λ (t : List (List ℕ)). get_or t k []) e ∙ spelled-at book k
+  where
+    spelled-at : (b : List String) (j : ℕ) → get_or (map spelled b) j [] ≡ spelled (get_or b j "")
+    spelled-at [] j = refl
+    spelled-at (s ∷ b) zero = refl
+    spelled-at (s ∷ b) (suc j) = spelled-at b j
 
 -- the room that `say` has for a phrase
 abbrev pub most_phrase : ℕ
 most_phrase = 128
 
-right : List String → Bool
-right [] = true
-right (s ∷ l) = pick (plain (spelled s)) (pick (leb (length (spelled s)) most_phrase) (right l) false) false
+short : List String → Bool
+short [] = true
+short (s ∷ l) = both (leb (length (spelled s)) most_phrase) (short l)
 
-first_plain : (a t : List ℕ) → T (plain a) → first (a ++ (10 ∷ t)) ≡ a
-unfolding first plain
-first_plain [] t h = refl
-first_plain (c ∷ a) t h = by (eqb c 10) h (λ k. first_plain a t k)
-  where
-    by : (b : Bool) → T (pick b false (plain a)) → (T (plain a) → first (a ++ (10 ∷ t)) ≡ a) → pick b [] (c ∷ first (a ++ (10 ∷ t))) ≡ c ∷ a
-    by true k e = absurd k
-    by false k e = ap (λ (x : List ℕ). c ∷ x) (e k)
+short_at : (b : List String) → short b ≡ true → (k : ℕ) → length (spelled (get_or b k "")) ≤ most_phrase
+unfolding short
+short_at [] h k = omega arith
+short_at (s ∷ l) h zero = leb-true (length (spelled s)) most_phrase (both_left (leb (length (spelled s)) most_phrase) (short l) h)
+short_at (s ∷ l) h (suc k) = short_at l (both_right (leb (length (spelled s)) most_phrase) (short l) h) k
 
-rest_plain : (a t : List ℕ) → T (plain a) → rest (a ++ (10 ∷ t)) ≡ t
-unfolding rest plain
-rest_plain [] t h = refl
-rest_plain (c ∷ a) t h = by (eqb c 10) h (λ k. rest_plain a t k)
-  where
-    by : (b : Bool) → T (pick b false (plain a)) → (T (plain a) → rest (a ++ (10 ∷ t)) ≡ t) → pick b (a ++ (10 ∷ t)) (rest (a ++ (10 ∷ t))) ≡ t
-    by true k e = absurd k
-    by false k e = e k
-
-below_none : (k : ℕ) → below k [] ≡ []
-unfolding below rest
-below_none zero = refl
-below_none (suc k) = below_none k
-
-pick_yes : (a b : Bool) → T (pick a b false) → T a × T b
-pick_yes true b h = (tt, h)
-pick_yes false b h = absurd h
-
-right-parts : (s : String) (l : List String) → T (right (s ∷ l)) → T (plain (spelled s)) × (length (spelled s) ≤ most_phrase) × T (right l)
-unfolding right
-right-parts s l h =
-    let p = pick_yes (plain (spelled s)) (pick (leb (length (spelled s)) most_phrase) (right l) false) h in
-    let q = pick_yes (leb (length (spelled s)) most_phrase) (right l) p.1 in
-    (p.0, leb→le (length (spelled s)) most_phrase q.0, q.1)
-
-page-line : (b : List String) → T (right b) → (k : ℕ) → line_in (page b) k ≡ spelled (get_or b k "")
-unfolding page first below
-page-line [] h k = ap first (below_none k)
-page-line (s ∷ l) h zero = first_plain (spelled s) (page l) (right-parts s l h).0
-page-line (s ∷ l) h (suc k) =
-    ap (λ (t : List ℕ). first (below k t)) (rest_plain (spelled s) (page l) (right-parts s l h).0) ∙ page-line l (right-parts s l h).2 k
-
-page-short : (b : List String) → T (right b) → (k : ℕ) → length (spelled (get_or b k "")) ≤ most_phrase
-page-short [] h k = omega arith
-page-short (s ∷ l) h zero = (right-parts s l h).1
-page-short (s ∷ l) h (suc k) = page-short l (right-parts s l h).2 k
-
-book-right : T (right book)
-unfolding right plain book
-book-right = tt
-
--- the phrases are the lines of the book's page
-pub phrase-line : (k : ℕ) → line_in (page book) k ≡ phrase k
-unfolding phrase
-phrase-line k = page-line book book-right k
+book_short : short book ≡ true
+unfolding short book
+book_short = refl
 
 pub phrase-short : (k : ℕ) → length (phrase k) ≤ most_phrase
 unfolding phrase
-phrase-short k = page-short book book-right k
+phrase-short k = short_at book book_short k

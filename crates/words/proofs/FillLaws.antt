@@ -7,6 +7,7 @@ use Prim.Native.Nat.{ℕ, suc, ◌+◌, ◌≤◌, ◌<◌}
 use native.Mathlib.Numerals.{add-one}
 use native.Mathlib.Omega.{arith}
 use lib.Dec.{eqb}
+use borrow.Author.Tests.{eq-eqb, ne_eqb}
 use lib.ListN.{length, get_or, take, drop}
 use lib.Seq.{take-suc}
 use Rattle.octets.specs.Choice.{pick}
@@ -69,9 +70,15 @@ pub fill_turn : (t : List ℕ) (ts : List (List ℕ)) (i : ℕ) → i < length t
 fill_turn t ts i h =
     sym (fill_one (take i t) (get_or t i 0) ts) ∙ ap (λ (x : List ℕ). fill x ts) (sym (take-suc t i 0 h) ∙ ap (λ (n : ℕ). take n t) (sym (add-one i)))
 
-pub holes_turn : (t : List ℕ) (i : ℕ) → i < length t → after_one (get_or t i 0) (holes (take i t)) ≡ holes (take (i + 1) t)
+holes_turn : (t : List ℕ) (i : ℕ) → i < length t → after_one (get_or t i 0) (holes (take i t)) ≡ holes (take (i + 1) t)
 holes_turn t i h =
     sym (holes_one (take i t) (get_or t i 0)) ∙ ap holes (sym (take-suc t i 0 h) ∙ ap (λ (n : ℕ). take n t) (sym (add-one i)))
+
+pub hole_turn : (t : List ℕ) (i : ℕ) {k : ℕ} → i < length t → k ≡ holes (take i t) → get_or t i 0 ≡ 37 → k + 1 ≡ holes (take (i + 1) t)
+hole_turn t i {k} h e f = ap (λ (n : ℕ). n + 1) e ∙ add-one (holes (take i t)) ∙ sym (simp (eq-eqb _ _ f)) ∙ holes_turn t i h
+
+pub letter_turn : (t : List ℕ) (i : ℕ) {k : ℕ} → i < length t → k ≡ holes (take i t) → (get_or t i 0 ≡ 37 → ⊥) → k ≡ holes (take (i + 1) t)
+letter_turn t i h e f = e ∙ sym (simp (ne_eqb _ _ f)) ∙ holes_turn t i h
 
 -- a text more that is empty makes no difference
 pub fill-blank : (t : List ℕ) (ts : List (List ℕ)) → fill t (ts ++ ([] ∷ [])) ≡ fill t ts

@@ -1,5 +1,4 @@
 pub mod SaidLaws
-pub mod LineLaws
 pub mod BookLaws
 pub mod FillLaws
 pub mod PickLaws

@@ -9,7 +9,7 @@ use lib.ListN.{length, get_or, take, drop, set, length-append}
 use lib.Seq.{take-suc, length-take-le, take_at}
 use Rattle.octets.specs.Put.{put_at}
 use Rattle.octets.proofs.PutLaws.{put_at-none, put_start, set_more}
-use Rattle.lines.specs.Text.{decimal, Wrote}
+use Rattle.lines.specs.Text.{Wrote}
 use Rattle.lines.proofs.TextLaws.{wrote-more}
 use Rattle.words.specs.Said.{Said, shown_of, letters}
 
@@ -35,12 +35,6 @@ said-none h = record { wrote = λ k. absurd (h k); inside = λ k. k; kept = refl
 -- all of it was put
 pub said_all : {t out out₁ : List ℕ} {at r : ℕ} → at + length t ≤ length out → Wrote t out out₁ at r → length out₁ ≡ length out → Said t out out₁ at r
 said_all h w e = record { wrote = λ _. w; inside = λ _. omega (arith, w.after, h); kept = e }
-
--- digits that were put at the start of some room are the text of the number
-pub digits_are : {out out₁ : List ℕ} (n : ℕ) {r : ℕ} → Wrote (decimal n) out out₁ 0 r → take r out₁ ≡ decimal n
-digits_are {out} {out₁} n {r} w =
-    let e : r ≡ length (decimal n) = omega (arith, w.after) in
-    ap (take r) (w.put ∙ put_start out (decimal n)) ∙ take_at (decimal n) (drop (length (decimal n)) out) r (sym e)
 
 -- a letter for each byte
 pub length-letters : (l : List ℕ) → length (letters l) ≡ length l

@@ -1,30 +1,14 @@
--- The phrase book: every phrase that is said, one to a line. A % is a hole, filled in when the phrase is said.
+-- The phrase book: every phrase that is said. A % is a hole, filled in when the phrase is said.
 -- Assumes nothing: these are definitions.
-use Rattle.std.specs.Prelude.{ℕ, zero, suc, List, [], ◌∷◌, ◌++◌, get_or, drop, eqb}
+use Rattle.std.specs.Prelude.{ℕ, List, [], ◌∷◌, ◌++◌, get_or, drop, eqb, map}
+use Rattle.std.specs.Borrow.{Bor}
 use Prim.Native.String.{String}
 use Rattle.octets.specs.Choice.{pick}
 use Rattle.words.specs.Said.{spelled}
 
--- a line of a text, its first being line 0, without the newline that ends it: what stands before a newline, and what after it
-unfoldable pub first : List ℕ → List ℕ
-first [] = []
-first (c ∷ t) = pick (eqb c 10) [] (c ∷ first t)
-
-unfoldable pub rest : List ℕ → List ℕ
-rest [] = []
-rest (c ∷ t) = pick (eqb c 10) t (rest t)
-
-unfoldable pub below : ℕ → List ℕ → List ℕ
-below zero t = t
-below (suc k) t = below k (rest t)
-
-abbrev pub line_in : List ℕ → ℕ → List ℕ
-line_in t k = first (below k t)
-
--- phrases as lines of a text
-unfoldable pub page : List String → List ℕ
-page [] = []
-page (s ∷ l) = spelled s ++ (10 ∷ page l)
+-- one of some texts that are lent, and none where there are not so many
+unfoldable pub text_in : List (Bor (List ℕ)) → ℕ → List ℕ
+text_in l k = get_or (map (λ (x : Bor (List ℕ)). x.now) l) k []
 
 -- a text with its holes filled: each % by the next of the texts
 unfoldable pub fill : List ℕ → List (List ℕ) → List ℕ

@@ -1,6 +1,6 @@
 -- A phrase with what fills its holes, and the text that it is.
 -- Assumes nothing: these are definitions.
-use Rattle.std.specs.Prelude.{ℕ, suc, List, [], ◌∷◌, eqb, get_or}
+use Rattle.std.specs.Prelude.{ℕ, suc, List, [], ◌∷◌, eqb, get_or, map}
 use Prim.Native.String.{String}
 use Rattle.octets.specs.Choice.{pick}
 use Rattle.octets.specs.Numbers.{be16}
@@ -30,11 +30,11 @@ arg_text (Code c) = code c
 arg_text (Phrase k) = phrase k
 
 abbrev pub arg_texts : Sentence → List (List ℕ)
-arg_texts s = arg_text s.a ∷ arg_text s.b ∷ arg_text s.c ∷ arg_text s.d ∷ []
+arg_texts s = map arg_text s.args
 
--- a sentence whose last hole is blank
-abbrev pub sentence : ℕ → Arg → Arg → Arg → Sentence
-sentence k x y z = record { phrase = k; a = x; b = y; c = z; d = Blank }
+-- a sentence with these in its four holes, the others blank
+abbrev pub sentence : ℕ → List Arg → Sentence
+sentence k l = record { phrase = k; args = get_or l 0 Blank ∷ get_or l 1 Blank ∷ get_or l 2 Blank ∷ get_or l 3 Blank ∷ [] }
 
 abbrev pub sentence_text : Sentence → List ℕ
 sentence_text s = fill (phrase s.phrase) (arg_texts s)

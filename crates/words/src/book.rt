@@ -1,8 +1,8 @@
-// The phrase book: every phrase that is said, one to a line, and the number of each. A % is a hole, filled in when the phrase is said.
+// The phrase book: every phrase that is said, and the number of each. A % is a hole, filled in when the phrase is said.
 ghost use Rattle.words.specs.Said.{Said};
-ghost use Rattle.words.specs.Book.{line_in, phrase};
+ghost use Rattle.words.specs.Book.{phrase, text_in};
 
-use crate::{page, put};
+use crate::put;
 
 // Refusals.
 pub const REFUSED_1: usize = 0;
@@ -141,84 +141,86 @@ pub const CUT: usize = 62;
 
 pub const BAD: usize = 63;
 
-// The line of a text with this number.
-fn put_line(out: &mut [u8], at: usize, text: &[u8], k: usize) -> usize
-    ensures { Said (line_in text.now k) out.old out.new at result }
+static PHRASES: [&str; 64] = [
+    "the farm sheet breaks a rule",
+    "the output buffer has under 4096 bytes",
+    "the assembling buffer has not 32768 bytes",
+    "the table breaks a rule",
+    "the sheet has no such farm",
+    "the row is not open",
+    "the row waits for its activation",
+    "the farm has no free row",
+    "no user data, or over 2044 bytes",
+    "not a controller of the farm, or the tester is not active there",
+    "a number without a meaning",
+    "the header does not begin as it must",
+    "the type is unknown here",
+    "the message is too long",
+    "the length is wrong for the type",
+    "not a tester of this farm",
+    "all places of the farm are in use",
+    "the row is active for another tester",
+    "the tester is active on another row",
+    "the activation type is not supported",
+    "activated",
+    "accepted",
+    "the sender is not active on this row",
+    "not a controller of this farm",
+    "the controller is not reachable",
+    "an unknown code",
+    "not ready",
+    "ready",
+    "not supported",
+    "an unknown mode",
+    "sent header negative acknowledge (0000): code %, %",
+    "sent vehicle identification response (0004): entity %, VIN ",
+    "sent routing activation response (0006): tester %, entity %, code %, %",
+    "sent alive check request (0007)",
+    "sent entity status response (4002): places for testers %, rows open %, longest message % bytes",
+    "sent power mode response (4004): %, %",
+    "sent diagnostic message (8001): from controller % to tester %, user data % bytes",
+    "sent diagnostic positive acknowledge (8002): from controller % to tester %, code %, %",
+    "sent diagnostic negative acknowledge (8003): from controller % to tester %, code %, %",
+    "sent a message that can not be read",
+    "closed",
+    "handed on: from tester % to controller %, user data % bytes",
+    "handed on a payload that can not be read",
+    "an entry of an unknown kind, %",
+    "    an entry that can not be read",
+    "    row %: ",
+    "    datagram: ",
+    "call %: ",
+    "start a fresh table: ",
+    "connect, farm %: ",
+    "bytes from row %: ",
+    "peer closed, row %: ",
+    "link of farm % lost: ",
+    "tick: ",
+    "datagram, farm %: ",
+    "message from a controller, farm %, from controller % to tester %: ",
+    "done",
+    "done, row % opened",
+    "done, % of % bytes taken",
+    "refused (%): %",
+    "farm %: % bytes taken, % finished, % lost",
+    "the end: % calls",
+    "the file is cut at byte %: the record that begins there is not whole",
+    "the file is bad at byte %: the record that begins there can not be read",
+];
+
+// One of some phrases, or none where there are not so many.
+fn put_one(out: &mut [u8], at: usize, phrases: &[&str], k: usize) -> usize
+    ensures { Said (text_in phrases.now k) out.old out.new at result }
 {
-    let start = page::start_of(text, k);
-    let end = page::end_of(text, start);
-    put::words(out, at, &text[start..end])
+    match phrases.get(k) {
+        Some(words) => put::words(out, at, words.as_bytes()),
+        None => at,
+    }
 }
 
 // The phrase with this number.
 pub fn phrase(out: &mut [u8], at: usize, k: usize) -> usize
     ensures { Said (phrase k) out.old out.new at result }
 {
-    let text = b"\
-the farm sheet breaks a rule\n\
-the output buffer has under 4096 bytes\n\
-the assembling buffer has not 32768 bytes\n\
-the table breaks a rule\n\
-the sheet has no such farm\n\
-the row is not open\n\
-the row waits for its activation\n\
-the farm has no free row\n\
-no user data, or over 2044 bytes\n\
-not a controller of the farm, or the tester is not active there\n\
-a number without a meaning\n\
-the header does not begin as it must\n\
-the type is unknown here\n\
-the message is too long\n\
-the length is wrong for the type\n\
-not a tester of this farm\n\
-all places of the farm are in use\n\
-the row is active for another tester\n\
-the tester is active on another row\n\
-the activation type is not supported\n\
-activated\n\
-accepted\n\
-the sender is not active on this row\n\
-not a controller of this farm\n\
-the controller is not reachable\n\
-an unknown code\n\
-not ready\n\
-ready\n\
-not supported\n\
-an unknown mode\n\
-sent header negative acknowledge (0000): code %, %\n\
-sent vehicle identification response (0004): entity %, VIN \n\
-sent routing activation response (0006): tester %, entity %, code %, %\n\
-sent alive check request (0007)\n\
-sent entity status response (4002): places for testers %, rows open %, longest message % bytes\n\
-sent power mode response (4004): %, %\n\
-sent diagnostic message (8001): from controller % to tester %, user data % bytes\n\
-sent diagnostic positive acknowledge (8002): from controller % to tester %, code %, %\n\
-sent diagnostic negative acknowledge (8003): from controller % to tester %, code %, %\n\
-sent a message that can not be read\n\
-closed\n\
-handed on: from tester % to controller %, user data % bytes\n\
-handed on a payload that can not be read\n\
-an entry of an unknown kind, %\n\
-\x20\x20\x20\x20an entry that can not be read\n\
-\x20\x20\x20\x20row %: \n\
-\x20\x20\x20\x20datagram: \n\
-call %: \n\
-start a fresh table: \n\
-connect, farm %: \n\
-bytes from row %: \n\
-peer closed, row %: \n\
-link of farm % lost: \n\
-tick: \n\
-datagram, farm %: \n\
-message from a controller, farm %, from controller % to tester %: \n\
-done\n\
-done, row % opened\n\
-done, % of % bytes taken\n\
-refused (%): %\n\
-farm %: % bytes taken, % finished, % lost\n\
-the end: % calls\n\
-the file is cut at byte %: the record that begins there is not whole\n\
-the file is bad at byte %: the record that begins there can not be read\n\
-";
-    put_line(out, at, text, k)
+    put_one(out, at, &PHRASES, k)
 }

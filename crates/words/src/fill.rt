@@ -1,10 +1,11 @@
 // A phrase with its holes filled.
-ghost use Rattle.std.specs.Prelude.{◌≡◌, [], ◌<◌, length, get_or};
+ghost use Rattle.std.specs.Prelude.{◌≡◌, ◌<◌, length, map, get_or};
 ghost use Rattle.words.specs.Said.{Said};
 ghost use Rattle.words.specs.Book.{fill};
-ghost use Rattle.words.specs.Sentence.{arg_text, arg_texts, sentence, sentence_text, one_text, after_one};
+ghost use Rattle.words.specs.Sentence.{arg_text, sentence, sentence_text, one_text};
 
 use crate::{book, put};
+use std::array;
 
 // What fills a hole.
 #[derive(Clone, Copy)]
@@ -24,45 +25,27 @@ pub enum Arg {
 #[derive(Clone, Copy)]
 pub struct Sentence {
     pub phrase: usize,
-    pub a: Arg,
-    pub b: Arg,
-    pub c: Arg,
-    pub d: Arg,
+    pub args: [Arg; 4],
 }
 
-// A sentence whose last hole is blank.
-pub fn with(phrase: usize, a: Arg, b: Arg, c: Arg) -> Sentence
-    ensures { result ≡ sentence phrase a b c }
+// What fills the hole with this number.
+fn nth(args: &[Arg], k: usize) -> Arg
+    ensures { result ≡ get_or args.now k Arg.Blank }
+{
+    args.get(k).copied().unwrap_or(Arg::Blank)
+}
+
+// A sentence with these in its holes. The others are blank.
+pub fn with(phrase: usize, args: &[Arg]) -> Sentence
+    ensures { result ≡ sentence phrase args.now }
 {
     Sentence {
         phrase,
-        a,
-        b,
-        c,
-        d: Arg::Blank,
+        args: array::from_fn(|k| nth(args, k)),
     }
 }
 
-const HOLE: u8 = 37;
-
-// What fills the hole with this number.
-fn nth(s: Sentence, k: usize) -> Arg
-    ensures { arg_text result ≡ get_or (arg_texts s) k [] }
-{
-    if k == 0 {
-        return s.a;
-    }
-    if k == 1 {
-        return s.b;
-    }
-    if k == 2 {
-        return s.c;
-    }
-    if k == 3 {
-        return s.d;
-    }
-    Arg::Blank
-}
+const HOLE: u8 = b'%';
 
 fn put_arg(out: &mut [u8], at: usize, a: Arg) -> usize
     ensures { Said (arg_text a) out.old out.new at result }
@@ -77,37 +60,26 @@ fn put_arg(out: &mut [u8], at: usize, a: Arg) -> usize
 }
 
 // A character of a phrase in which so many holes are filled.
-fn put_one(out: &mut [u8], at: usize, c: u8, k: usize, s: Sentence) -> usize
-    ensures { Said (one_text c k (arg_texts s)) out.old out.new at result }
+fn put_one(out: &mut [u8], at: usize, c: u8, k: usize, args: &[Arg]) -> usize
+    ensures { Said (one_text c k (map arg_text args.now)) out.old out.new at result }
 {
-    if c == HOLE {
-        return put_arg(out, at, nth(s, k));
+    match c {
+        HOLE => put_arg(out, at, nth(args, k)),
+        _ => put::letter(out, at, c),
     }
-    put::letter(out, at, c)
 }
 
-fn after_one(c: u8, k: usize) -> usize
-    requires { k < 4096 }
-    ensures { result ≡ after_one c k }
-{
-    if c == HOLE {
-        return k + 1;
-    }
-    k
-}
-
-fn fill_in(out: &mut [u8], at: usize, t: &[u8], s: Sentence) -> usize
+fn fill_in(out: &mut [u8], at: usize, t: &[u8], args: &[Arg]) -> usize
     requires { length t.now < 4096 }
-    ensures { Said (fill t.now (arg_texts s)) out.old out.new at result }
+    ensures { Said (fill t.now (map arg_text args.now)) out.old out.new at result }
 {
     let mut p = at;
-    let mut k: usize = 0;
-    let mut i: usize = 0;
-    while i < t.len() {
-        let c = t[i];
-        p = put_one(out, p, c, k, s);
-        k = after_one(c, k);
-        i += 1;
+    let mut filled: usize = 0;
+    for c in t {
+        p = put_one(out, p, *c, filled, args);
+        if *c == HOLE {
+            filled += 1;
+        }
     }
     p
 }
@@ -118,5 +90,5 @@ pub fn say(out: &mut [u8], at: usize, s: Sentence) -> usize
 {
     let mut t = [0u8; 128];
     let n = book::phrase(&mut t, 0, s.phrase);
-    fill_in(out, at, &t[..n], s)
+    fill_in(out, at, &t[..n], &s.args)
 }

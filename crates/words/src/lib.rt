@@ -5,5 +5,4 @@
 pub mod book; // book.rt: the phrases
 pub mod fill; // fill.rt: a phrase with its holes filled
 pub mod names; // names.rt: the phrases for refusals and codes
-mod page; // page.rt: a line of a text
 pub mod put; // put.rt: words, numbers and bytes

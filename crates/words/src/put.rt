@@ -5,16 +5,14 @@ ghost use Rattle.octets.specs.Says.{Says};
 ghost use Rattle.lines.specs.Text.{decimal, hex};
 ghost use Rattle.words.specs.Said.{Said, shown_of, letters};
 
+use itoa::Buffer;
 use lines::text;
 
 // There is room for so many bytes more, at a place of a buffer of so many.
 fn has_room(have: usize, at: usize, n: usize) -> bool
     ensures { Says result (at + n ≤ have) }
 {
-    if have < at {
-        return false;
-    }
-    n <= have - at
+    at <= have && n <= have - at
 }
 
 pub fn words(out: &mut [u8], at: usize, words: &[u8]) -> usize
@@ -31,9 +29,8 @@ pub fn words(out: &mut [u8], at: usize, words: &[u8]) -> usize
 pub fn number(out: &mut [u8], at: usize, n: usize) -> usize
     ensures { Said (decimal n) out.old out.new at result }
 {
-    let mut digits = [0u8; 20];
-    let k = text::put_decimal(&mut digits, 0, n);
-    words(out, at, &digits[..k])
+    let mut buffer = Buffer::new();
+    words(out, at, buffer.format(n).as_bytes())
 }
 
 // Bytes in hexadecimal.
@@ -50,24 +47,21 @@ pub fn bytes(out: &mut [u8], at: usize, bytes: &[u8]) -> usize
 pub fn address(out: &mut [u8], at: usize, x: u16) -> usize
     ensures { Said (hex (be16 x)) out.old out.new at result }
 {
-    let b = [(x / 256) as u8, (x % 256) as u8];
-    bytes(out, at, &b)
+    bytes(out, at, &x.to_be_bytes())
 }
 
 // A code in hexadecimal.
 pub fn code(out: &mut [u8], at: usize, c: u8) -> usize
     ensures { Said (hex (c ∷ [])) out.old out.new at result }
 {
-    let b = [c];
-    bytes(out, at, &b)
+    bytes(out, at, &[c])
 }
 
 // A character by itself.
 pub fn letter(out: &mut [u8], at: usize, c: u8) -> usize
     ensures { Said (c ∷ []) out.old out.new at result }
 {
-    let b = [c];
-    words(out, at, &b)
+    words(out, at, &[c])
 }
 
 // Words, and bytes after them.
@@ -81,13 +75,10 @@ pub fn words_bytes(out: &mut [u8], at: usize, said: &[u8], b: &[u8]) -> usize
 fn shown(b: u8) -> u8
     ensures { result ≡ shown_of b }
 {
-    if b < 32 {
-        return 46;
+    match b {
+        b' '..=b'~' => b,
+        _ => b'.',
     }
-    if 126 < b {
-        return 46;
-    }
-    b
 }
 
 // Bytes that are letters, as the letters they are.
@@ -97,10 +88,8 @@ pub fn letters_of(out: &mut [u8], at: usize, b: &[u8]) -> usize
     if !has_room(out.len(), at, b.len()) {
         return at;
     }
-    let mut j = 0;
-    while j < b.len() {
-        out[at + j] = shown(b[j]);
-        j += 1;
+    for (j, x) in b.iter().enumerate() {
+        out[at + j] = shown(*x);
     }
     at + b.len()
 }

@@ -9,13 +9,13 @@ pub put_named-b-requires : goal.put_named-b-requires
 put_named-b-requires c = omega (arith, length-decimal c.args.f)
 
 pub put_named-c-requires : goal.put_named-c-requires
-put_named-c-requires c = omega (arith, length-decimal c.args.f, length-decimal c.args.taken)
+put_named-c-requires c = omega (arith, length-decimal c.args.f, length-decimal c.args.m.taken)
 
 pub put_named-d-requires : goal.put_named-d-requires
-put_named-d-requires c = omega (arith, length-decimal c.args.f, length-decimal c.args.taken, length-decimal c.args.finished)
+put_named-d-requires c = omega (arith, length-decimal c.args.f, length-decimal c.args.m.taken, length-decimal c.args.m.finished)
 
 pub put_words-requires : goal.put_words-requires
-put_words-requires c = omega (arith, length-decimal c.args.f, length-decimal c.args.taken, length-decimal c.args.finished, length-decimal c.args.lost)
+put_words-requires c = omega (arith, length-decimal c.args.f, length-decimal c.args.m.taken, length-decimal c.args.m.finished, length-decimal c.args.m.lost)
 
 pub returns : goal.returns
 unfolding farm_line
@@ -25,9 +25,9 @@ returns c = let v = c.put_named-a.ensures in
     let y = c.put_named-d.ensures in
     let s = c.requires in
     let a = length-decimal c.args.f in
-    let b = length-decimal c.args.taken in
-    let d = length-decimal c.args.finished in
-    let e = length-decimal c.args.lost in
+    let b = length-decimal c.args.m.taken in
+    let d = length-decimal c.args.m.finished in
+    let e = length-decimal c.args.m.lost in
     wrote-more
     (wrote-more
     (wrote-more (wrote-more v w (omega (arith, v.after, a, b, s))) x (omega (arith, v.after, w.after, a, b, d, s)))

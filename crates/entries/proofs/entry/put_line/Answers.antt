@@ -1,8 +1,8 @@
 -- `entry::put_line` meets its contract.
 -- Assumes nothing.
-use mathlib.Core.Path.{ap}
-use Rattle.entries.specs.Entries.{spot_text}
+use Rattle.std.proofs.Common.{ap}
 use Rattle.words.proofs.SaidLaws.{said-is, said_more}
+use Rattle.entries.specs.Entries.{spot_text}
 use Rattle.entries.proofs.entry.put_line.Goals as goal
 
 pub returns : goal.returns

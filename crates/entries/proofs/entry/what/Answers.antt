@@ -1,26 +1,26 @@
 -- `entry::what` meets its contract.
 -- Assumes nothing.
-use mathlib.Core.Path.{sym, ap, ◌∙◌}
-use Prim.Native.Nat.{ℕ}
-use borrow.Author.Tests.{ne_eqb}
-use Rattle.words.specs.Sentence.{sentence_text}
+use Rattle.std.proofs.Common.{ℕ, sym, ap, ◌∙◌, arith, ne_eqb}
 use Rattle.entries.specs.Entries.{plain_text}
+use Rattle.words.specs.Sentence.{sentence_text}
 use Rattle.words.proofs.PickLaws.{no}
 use Rattle.entries.proofs.MessageLaws.{closed-says, odd_kind-says}
 use Rattle.entries.proofs.entry.what.Goals as goal
 
-pub returns-then-kind-eq1 : goal.returns-then-kind-eq1
+pub returns-in-1 : goal.returns-in-1
 unfolding plain_text
-returns-then-kind-eq1 c = c.message.ensures ∙ sym (ap (λ (k : ℕ). plain_text k c.args.b.now) c.if-kind-eq1.true)
+returns-in-1 c = c.message.ensures ∙ sym (ap (λ (k : ℕ). plain_text k c.args.b.now) c.in-1.is)
 
-pub returns-then-kind-eq2 : goal.returns-then-kind-eq2
+pub returns-in-2 : goal.returns-in-2
 unfolding plain_text
-returns-then-kind-eq2 c = ap sentence_text c.with.ensures ∙ closed-says ∙ sym (ap (λ (k : ℕ). plain_text k c.args.b.now) c.if-kind-eq2.true)
+returns-in-2 c = ap sentence_text c.with.ensures ∙ closed-says ∙ sym (ap (λ (k : ℕ). plain_text k c.args.b.now) c.in-2.is)
 
-pub returns-then-kind-eq3 : goal.returns-then-kind-eq3
+pub returns-in-3 : goal.returns-in-3
 unfolding plain_text
-returns-then-kind-eq3 c = c.handed_on.ensures ∙ sym (ap (λ (k : ℕ). plain_text k c.args.b.now) c.if-kind-eq3.true)
+returns-in-3 c = c.handed_on.ensures ∙ sym (ap (λ (k : ℕ). plain_text k c.args.b.now) c.in-3.is)
 
-pub returns : goal.returns
+pub returns-in_default : goal.returns-in_default
 unfolding plain_text
-returns c = ap sentence_text c.with-2.ensures ∙ no _ (ne_eqb _ _ c.if-kind-eq1.false) (no _ (ne_eqb _ _ c.if-kind-eq2.false) (no _ (ne_eqb _ _ c.if-kind-eq3.false) (odd_kind-says _)))
+returns-in_default c =
+    ap sentence_text c.with-in_default.ensures
+    ∙ no _ (ne_eqb c.args.kind 1 (omega arith)) (no _ (ne_eqb c.args.kind 2 (omega arith)) (no _ (ne_eqb c.args.kind 3 (omega arith)) (odd_kind-says _)))

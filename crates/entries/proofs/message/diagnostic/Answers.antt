@@ -1,17 +1,19 @@
 -- `message::diagnostic` meets its contract.
 -- Assumes nothing.
-use mathlib.Core.Path.{ap, ◌∙◌}
-use borrow.Author.Tests.{lt-ltb, le-ltb}
-use Rattle.entries.specs.Messages.{unreadable, diagnostic_text}
+use Rattle.std.proofs.Common.{ap, ◌∙◌, lt-ltb, le-ltb}
+use Rattle.entries.specs.Messages.{diagnostic_text}
 use Rattle.words.specs.Sentence.{sentence_text}
 use Rattle.words.proofs.PickLaws.{yes, no}
+use Rattle.entries.proofs.EntryLaws.{rest_long}
 use Rattle.entries.proofs.MessageLaws.{diagnostic-says}
 use Rattle.entries.proofs.message.diagnostic.Goals as goal
 
-pub returns-then-p-lt4 : goal.returns-then-p-lt4
+pub returns-in-len4-up : goal.returns-in-len4-up
 unfolding diagnostic_text
-returns-then-p-lt4 c = yes _ (lt-ltb _ _ c.if-p-lt4.true) c.odd.ensures
+returns-in-len4-up c =
+    ap sentence_text c.with.ensures
+    ∙ rw (c.address.ensures, c.address-in-len4-up.ensures) (no _ (le-ltb _ _ c.in-len4-up.len_at_least) (diagnostic-says _ _ (rest_long 4 c.args.p.now)))
 
-pub returns : goal.returns
+pub returns-in_default : goal.returns-in_default
 unfolding diagnostic_text
-returns c = ap sentence_text c.with.ensures ∙ rw (c.read16-controller.ensures, c.read16-tester.ensures) (no unreadable (le-ltb _ _ c.if-p-lt4.false) (diagnostic-says _ _ _))
+returns-in_default c = yes _ (lt-ltb _ _ c.in_default.len_below) c.odd.ensures

@@ -1,6 +1,6 @@
 -- `message::odd` meets its contract.
 -- Assumes nothing.
-use mathlib.Core.Path.{ap, ◌∙◌}
+use Rattle.std.proofs.Common.{ap, ◌∙◌}
 use Rattle.words.specs.Sentence.{sentence_text}
 use Rattle.entries.proofs.MessageLaws.{odd_says}
 use Rattle.entries.proofs.message.odd.Goals as goal

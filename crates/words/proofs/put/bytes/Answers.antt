@@ -9,8 +9,5 @@ use Rattle.words.proofs.put.bytes.Goals as goal
 pub returns-then-not-has_room : goal.returns-then-not-has_room
 returns-then-not-has_room c = said-none (λ h. refuted c.has_room.ensures (c.if-not-has_room.true) (omega (arith, h, length-hex c.args.bytes.now)))
 
-pub put_hex-requires : goal.put_hex-requires
-put_hex-requires c = c.has_room.ensures.right (c.if-not-has_room.false)
-
 pub returns : goal.returns
 returns c = said_all (omega (arith, length-hex c.args.bytes.now, c.has_room.ensures.right (c.if-not-has_room.false))) c.put_hex.ensures c.put_hex.auto.out
