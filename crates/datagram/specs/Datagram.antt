@@ -1,16 +1,15 @@
 -- Datagrams: the verdict, and what each gets.
 -- Assumes nothing: these are definitions.
-use Rattle.std.specs.Prelude.{ℕ, ◌-◌, Bool, List, eqb, leb, length, drop, Option, Some, None}
+use Rattle.std.specs.Prelude.{ℕ, ◌-◌, Bool, List, eqb, leb, length, drop, Option, Some, None, Result, Ok, Err}
 use Rattle.kinds.specs.declared.Reply.{Reply}
 use Rattle.octets.specs.Choice.{pick, both, either, unless}
 use Rattle.octets.specs.Search.{same_list}
+use Rattle.kinds.specs.declared.Fault.{Fault}
 use Rattle.kinds.specs.declared.Fault.TheVariants.{Pattern, UnknownType, WrongLength}
-use Rattle.kinds.specs.declared.DatagramVerdict.{DatagramVerdict}
-use Rattle.kinds.specs.declared.DatagramVerdict.TheVariants.{NotAnswered, Passes, Wrong}
 use Rattle.kinds.specs.declared.Reply.TheVariants.{Nack, Identity, Status, PowerMode}
 use Rattle.layout.specs.FarmRecord.{quota_in, mode_in, vin_in, eid_in}
 use Rattle.types.specs.Types.{udp, known_on, length_fits}
-use Rattle.wire.specs.Header.{header_size, header_at, right_pattern, code_of}
+use Rattle.wire.specs.Header.{header_size, header_at, right_pattern, passed, code_of}
 use Rattle.wire.specs.declared.header.Header.{Header}
 
 -- "pattern (FF 00 is also right for 0001 to 0003)"
@@ -24,17 +23,17 @@ abbrev pub length_right : Header → ℕ → Bool
 length_right h following = both (length_fits udp h.kind h.length) (eqb h.length following)
 
 -- "Else pattern .., type, then length .. There is no closing and no code 02."
-unfoldable pub head_verdict : Header → ℕ → DatagramVerdict
+unfoldable pub head_verdict : Header → ℕ → Result Unit Fault
 head_verdict h following =
-    unless (right_for h) (Wrong Pattern)
-    (unless (known_on udp h.kind) (Wrong UnknownType)
-    (unless (length_right h following) (Wrong WrongLength) Passes))
+    unless (right_for h) (Err Pattern)
+    (unless (known_on udp h.kind) (Err UnknownType)
+    (unless (length_right h following) (Err WrongLength) passed))
 
--- "Datagrams: under 8 bytes, or of type 0000, never answered."
-unfoldable pub datagram_verdict : List ℕ → DatagramVerdict
+-- "Datagrams: under 8 bytes, or of type 0000, never answered.": these have no verdict
+unfoldable pub datagram_verdict : List ℕ → Option (Result Unit Fault)
 datagram_verdict d =
-    unless (leb header_size (length d)) NotAnswered
-    (pick (eqb (header_at d 0).kind 0) NotAnswered (head_verdict (header_at d 0) (length d - header_size)))
+    unless (leb header_size (length d)) None
+    (pick (eqb (header_at d 0).kind 0) None (Some (head_verdict (header_at d 0) (length d - header_size))))
 
 abbrev pub payload_of : List ℕ → List ℕ
 payload_of d = drop header_size d
@@ -53,10 +52,10 @@ answer_by kind payload farm opened =
     (pick (eqb kind 0x4001) (Some (Status (quota_in farm) opened))
     (pick (eqb kind 0x4003) (Some (PowerMode (mode_in farm))) None))))
 
-abbrev pub answer_for : DatagramVerdict → List ℕ → List ℕ → ℕ → Option Reply
-answer_for NotAnswered d farm opened = None
-answer_for Passes d farm opened = answer_by (header_at d 0).kind (payload_of d) farm opened
-answer_for (Wrong fault) d farm opened = Some (Nack (code_of fault))
+abbrev pub answer_for : Option (Result Unit Fault) → List ℕ → List ℕ → ℕ → Option Reply
+answer_for None d farm opened = None
+answer_for (Some (Ok tt)) d farm opened = answer_by (header_at d 0).kind (payload_of d) farm opened
+answer_for (Some (Err fault)) d farm opened = Some (Nack (code_of fault))
 
 -- what a datagram to a farm with this record and so many open rows gets
 unfoldable pub answer_to : List ℕ → List ℕ → ℕ → Option Reply

@@ -5,7 +5,7 @@ ghost use Rattle.std.specs.Prelude.{◌≡◌, length};
 ghost use Rattle.datagram.specs.Datagram.{if_named, answer_by, answer_to};
 ghost use Rattle.octets.specs.Search.{same_list};
 
-use kinds::{DatagramVerdict, Reply};
+use kinds::Reply;
 
 // The farm names itself to whoever asked for it by name.
 fn if_named(asked: &[u8], name: &[u8]) -> Option<Reply>
@@ -36,12 +36,11 @@ pub fn answer(d: &[u8], farm: &[u8], opened: u8) -> Option<Reply>
     requires { length farm.now ≡ 33 }
     ensures { result ≡ answer_to d.now farm.now opened }
 {
-    match datagram_verdict::judge(d) {
-        DatagramVerdict::NotAnswered => None,
-        DatagramVerdict::Passes => {
+    match datagram_verdict::judge(d)? {
+        Ok(()) => {
             let h = wire::header::read(d, 0);
             answer_by(h.kind, &d[8..], farm, opened)
         }
-        DatagramVerdict::Wrong(f) => Some(Reply::Nack(wire::header::code_of(f))),
+        Err(f) => Some(Reply::Nack(wire::header::code_of(f))),
     }
 }

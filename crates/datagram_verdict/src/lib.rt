@@ -4,7 +4,7 @@
 ghost use Rattle.std.specs.Prelude.{◌≡◌};
 ghost use Rattle.datagram.specs.Datagram.{right_for, length_right, head_verdict, datagram_verdict};
 
-use kinds::{DatagramVerdict, Fault};
+use kinds::Fault;
 use wire::header::Header;
 
 // The pattern is right for the type: FF 00 is what a tester sends that does not know the version yet, and it may only ask who is there.
@@ -25,32 +25,32 @@ fn is_length_right(h: Header, following: usize) -> bool
 }
 
 #[tactic(auto, unfolding(datagram::specs::Datagram::head_verdict))]
-fn judge_head(h: Header, following: usize) -> DatagramVerdict
+fn judge_head(h: Header, following: usize) -> Result<(), Fault>
     ensures { result ≡ head_verdict h following }
 {
     if !is_right_for(h) {
-        return DatagramVerdict::Wrong(Fault::Pattern);
+        return Err(Fault::Pattern);
     }
     if !types::known(types::UDP, h.kind) {
-        return DatagramVerdict::Wrong(Fault::UnknownType);
+        return Err(Fault::UnknownType);
     }
     if !is_length_right(h, following) {
-        return DatagramVerdict::Wrong(Fault::WrongLength);
+        return Err(Fault::WrongLength);
     }
-    DatagramVerdict::Passes
+    Ok(())
 }
 
-// The verdict on any bytes that came as a datagram.
+// The verdict on any bytes that came as a datagram. Some are never answered, whatever is wrong with them: these have none.
 #[tactic(auto, unfolding(datagram::specs::Datagram::datagram_verdict))]
-pub fn judge(d: &[u8]) -> DatagramVerdict
+pub fn judge(d: &[u8]) -> Option<Result<(), Fault>>
     ensures { result ≡ datagram_verdict d.now }
 {
     if d.len() < 8 {
-        return DatagramVerdict::NotAnswered;
+        return None;
     }
     let h = wire::header::read(d, 0);
     if h.kind == 0 {
-        return DatagramVerdict::NotAnswered;
+        return None;
     }
-    judge_head(h, d.len() - 8)
+    Some(judge_head(h, d.len() - 8))
 }

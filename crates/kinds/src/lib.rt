@@ -132,14 +132,6 @@ pub enum Event {
     Skipped(u32),
 }
 
-// The verdict on a datagram; some are never answered, whatever is wrong with them.
-#[derive(Clone, Copy)]
-pub enum DatagramVerdict {
-    NotAnswered,
-    Passes,
-    Wrong(Fault),
-}
-
 // What an entry of the output sheet says. An enum holds no bytes: the one long payload of a call is lent beside its entries.
 #[derive(Clone, Copy)]
 pub enum Reply {

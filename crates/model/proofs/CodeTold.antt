@@ -1,6 +1,6 @@
 -- Every response 0006 of a call of a farm: why it is sent.
 -- Assumes nothing.
-use Rattle.std.proofs.Common.{Option, Some, None}
+use Rattle.std.proofs.Common.{Option, Some, None, Result, Ok, Err}
 use Rattle.kinds.specs.declared.Reply.{Reply}
 use Prim.Native.Nat.{ℕ}
 use mathlib.Core.Path.{◌≡◌, refl, ap, ◌∙◌}
@@ -13,8 +13,6 @@ use borrow.Author.Tests.{eqb-true}
 use Rattle.octets.specs.Search.{first_at, same_list}
 use Rattle.kinds.specs.declared.Item.{Item}
 use Rattle.kinds.specs.declared.Reply.TheVariants.{Activation, Ack, HandOn}
-use Rattle.kinds.specs.declared.DatagramVerdict.{DatagramVerdict}
-use Rattle.kinds.specs.declared.DatagramVerdict.TheVariants.{NotAnswered, Passes, Wrong}
 use Rattle.kinds.specs.declared.Fault.{Fault}
 use Rattle.kinds.specs.declared.Request.{Request}
 use Rattle.kinds.specs.declared.RowState.{RowState}
@@ -89,16 +87,16 @@ datagram-plain input names opened = by (datagram_verdict input)
     named true = one_each Plain _ (λ a e c p. let z : ◌≡◌ {A = ℕ} 0 1 = cc in omega arith)
     named false = none_each Plain
 
-    by : (v : DatagramVerdict) → P (answer_for v input names opened)
-    by NotAnswered = none_each Plain
-    by Passes =
+    by : (v : Option (Result Unit Fault)) → P (answer_for v input names opened)
+    by None = none_each Plain
+    by (Some (Ok tt)) =
         pick_case P (eqb (header_at input 0).kind 0x0001) _ _ (λ _. one_each Plain _ (λ a e c p. let z : ◌≡◌ {A = ℕ} 0 1 = cc in omega arith))
         (λ _. pick_case P (eqb (header_at input 0).kind 0x0002) _ _ (λ _. named (same_list (payload_of input) _))
         (λ _. pick_case P (eqb (header_at input 0).kind 0x0003) _ _ (λ _. named (same_list (payload_of input) _))
         (λ _. pick_case P (eqb (header_at input 0).kind 0x4001) _ _ (λ _. one_each Plain _ (λ a e c p. let z : ◌≡◌ {A = ℕ} 0 1 = cc in omega arith))
         (λ _. pick_case P (eqb (header_at input 0).kind 0x4003) _ _ (λ _. one_each Plain _ (λ a e c p. let z : ◌≡◌ {A = ℕ} 0 1 = cc in omega arith))
         (λ _. none_each Plain)))))
-    by (Wrong fault) = one_each Plain _ (λ a e c p. let z : ◌≡◌ {A = ℕ} 0 1 = cc in omega arith)
+    by (Some (Err fault)) = one_each Plain _ (λ a e c p. let z : ◌≡◌ {A = ℕ} 0 1 = cc in omega arith)
 
 -- ---- the calls
 

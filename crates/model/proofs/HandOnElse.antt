@@ -1,7 +1,8 @@
 -- No call but bytes ever hands a payload on: connect, peer closed, link lost, datagram, message from a controller, tick, start.
 -- Assumes nothing.
-use Rattle.std.proofs.Common.{Option, Some, None}
+use Rattle.std.proofs.Common.{Option, Some, None, Result, Ok, Err}
 use Rattle.kinds.specs.declared.Reply.{Reply}
+use Rattle.kinds.specs.declared.Fault.{Fault}
 use Prim.Native.Nat.{ℕ}
 use mathlib.Core.Path.{◌≡◌, refl, sym}
 use mathlib.Core.Bool.{Bool, true, false, false≢true}
@@ -9,8 +10,6 @@ use mathlib.Core.List.{List}
 use lib.Dec.{eqb, leb}
 use lib.ListN.{length, take}
 use Rattle.octets.specs.Search.{count_if, first_at, same_list}
-use Rattle.kinds.specs.declared.DatagramVerdict.{DatagramVerdict}
-use Rattle.kinds.specs.declared.DatagramVerdict.TheVariants.{NotAnswered, Passes, Wrong}
 use Rattle.kinds.specs.declared.Reply.TheVariants.{Message}
 use Rattle.layout.specs.FarmRecord.{eid_in, vin_in}
 use Rattle.wire.specs.Header.{header_at}
@@ -55,11 +54,11 @@ none-by kind payload farm opened =
     (λ t. pick_case NoneIn (eqb kind 0x0003) _ _ (λ t. none_named (same_list payload (vin_in farm)))
     (λ t. pick_case NoneIn (eqb kind 0x4001) _ _ (λ t. refl) (λ t. pick_case NoneIn (eqb kind 0x4003) _ _ (λ t. refl) (λ t. refl)))))
 
-none_for : (v : DatagramVerdict) (d farm : List ℕ) (opened : ℕ) → NoneIn (answer_for v d farm opened)
+none_for : (v : Option (Result Unit Fault)) (d farm : List ℕ) (opened : ℕ) → NoneIn (answer_for v d farm opened)
 unfolding count_if
-none_for NotAnswered d farm opened = refl
-none_for Passes d farm opened = none-by (header_at d 0).kind (payload_of d) farm opened
-none_for (Wrong fault) d farm opened = refl
+none_for None d farm opened = refl
+none_for (Some (Ok tt)) d farm opened = none-by (header_at d 0).kind (payload_of d) farm opened
+none_for (Some (Err fault)) d farm opened = refl
 
 -- ---- the other calls
 

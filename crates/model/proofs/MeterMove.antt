@@ -1,8 +1,9 @@
 -- A property that the single doings of a farm keep (MeterDoings) is kept by the calls of a farm: a call starts with nothing said, on a farm
 -- that keeps rule 4.
 -- Assumes nothing.
-use Rattle.std.proofs.Common.{Option, Some, None}
+use Rattle.std.proofs.Common.{Option, Some, None, Result, Ok, Err}
 use Rattle.kinds.specs.declared.Reply.{Reply}
+use Rattle.kinds.specs.declared.Fault.{Fault}
 use Prim.{Unit, tt}
 use Prim.Native.Nat.{ℕ, zero, suc, ◌≤◌, ◌<◌}
 use mathlib.Core.Path.{◌≡◌, refl, sym, ap, ◌∙◌}
@@ -23,8 +24,6 @@ use Rattle.kinds.specs.declared.RowState.TheVariants.{Free, Fresh, Waiting, Acti
 use Rattle.kinds.specs.declared.Place.{Place}
 use Rattle.kinds.specs.declared.Row.{Row}
 use Rattle.kinds.specs.declared.Item.{Item}
-use Rattle.kinds.specs.declared.DatagramVerdict.{DatagramVerdict}
-use Rattle.kinds.specs.declared.DatagramVerdict.TheVariants.{NotAnswered, Passes, Wrong}
 use Rattle.wire.specs.Header.{header_at, closes}
 use Rattle.payload.specs.Payload.{request_in, address_in, ends_in}
 use Rattle.payload.specs.declared.Ends.{Ends}
@@ -278,10 +277,10 @@ answer_calls kind payload farm opened =
     named true = refl
     named false = refl
 
-verdict_calls : (v : DatagramVerdict) (d farm : List ℕ) (opened : ℕ) → closes_by (answer_for v d farm opened) ≡ false
-verdict_calls NotAnswered d farm opened = refl
-verdict_calls Passes d farm opened = answer_calls (header_at d 0).kind (payload_of d) farm opened
-verdict_calls (Wrong fault) d farm opened = refl
+verdict_calls : (v : Option (Result Unit Fault)) (d farm : List ℕ) (opened : ℕ) → closes_by (answer_for v d farm opened) ≡ false
+verdict_calls None d farm opened = refl
+verdict_calls (Some (Ok tt)) d farm opened = answer_calls (header_at d 0).kind (payload_of d) farm opened
+verdict_calls (Some (Err fault)) d farm opened = refl
 
 datagram_calls : (d farm : List ℕ) (opened : ℕ) → closes_by (answer_to d farm opened) ≡ false
 unfolding answer_to
