@@ -7,7 +7,7 @@ use Rattle.kinds.specs.declared.Reply.{Reply}
 use Rattle.kinds.specs.declared.Item.{Item}
 use Rattle.outsheet.specs.Sheet.{Entry, entry}
 use Rattle.outsheet.specs.Replies.{kind_of, reply_bytes, entry_of}
-use Rattle.outsheet.specs.Contracts.{Fits, Entered}
+use Rattle.outsheet.specs.Contracts.{Entered}
 
 module _ (long : List ℕ) (it : Item) (r : Reply) (bs : List ℕ) (told : it.reply ≡ r) (made : bs ≡ reply_bytes it.version long r) where
   same : entry it.row.0 (kind_of r) bs ≡ entry_of long it

@@ -10,7 +10,7 @@ use Rattle.kinds.specs.declared.Item.{Item}
 use Rattle.outsheet.specs.Sheet.{Entry, entry_bytes}
 use Rattle.outsheet.specs.Replies.{entry_of, entries_of}
 use Rattle.plan.specs.Plan.{no_item}
-use Rattle.outsheet.proofs.SheetLaws.{none_laid, first-place, all_laid, next_place, turn_fits, entry-fits, turn}
+use Rattle.outsheet.proofs.SheetLaws.{none_laid, first-place, next_place, turn_fits, entry-fits, turn}
 use Rattle.sheet_writer.proofs.put_entries.Goals as goal
 
 -- what stands past the last entry

@@ -1,7 +1,7 @@
 -- `put_entries` meets its contract: a turn of the loop adds an offset and an entry (`turn` of outsheet's SheetLaws).
 -- Assumes nothing.
 use mathlib.Core.Path.{◌≡◌}
-use Prim.Native.Nat.{◌-◌, ◌≤◌}
+use Prim.Native.Nat.{◌≤◌}
 use lib.ListN.{length}
 use Rattle.outsheet.specs.Replies.{entries_of}
 use Rattle.outsheet.proofs.SheetLaws.{place_of, laid_up_to}
