@@ -19,7 +19,11 @@ pub fn say(p: &mut Plan, site: Site, seat: usize, reply: Reply)
 {
     let n = octets::wide(site.first) + seat;
     let row = RowNo(n as u8);
-    p.push(Item { row, version: VERSION, reply });
+    p.push(Item {
+        row,
+        version: VERSION,
+        reply,
+    });
 }
 
 // A row between two messages.

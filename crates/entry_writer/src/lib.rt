@@ -88,9 +88,12 @@ pub fn put_entry(out: &mut [u8], at: usize, it: Item, long: &[u8]) -> usize
     requires { Fits (entry_of long.now it) at (length out.old) }
     ensures { Entered (entry_of long.now it) out.old out.new at result }
 {
-    let row = it.row;
-    let v = it.version;
-    match it.reply {
+    let Item {
+        row,
+        version: v,
+        reply,
+    } = it;
+    match reply {
         Reply::Nack(c) => put_bytes(out, at, row, SEND, &short_replies::nack(v, c)),
         Reply::Identity => put_identity(out, at, row, v, long),
         Reply::Activation(a, e, c) => put_bytes(

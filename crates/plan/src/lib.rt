@@ -30,9 +30,12 @@ fn image(row: RowNo, version: u8, tag: u8, code: u8, a: u16, b: u16) -> [u8; SIZ
 fn item_bytes(it: Item) -> [u8; SIZE]
     ensures { result ≡ item_image it }
 {
-    let row = it.row;
-    let version = it.version;
-    match it.reply {
+    let Item {
+        row,
+        version,
+        reply,
+    } = it;
+    match reply {
         Reply::Nack(c) => image(row, version, 0, c, 0, 0),
         Reply::Identity => image(row, version, 1, 0, 0, 0),
         Reply::Activation(a, e, c) => image(row, version, 2, c, a, e),
@@ -113,7 +116,7 @@ impl Plan {
         usize::from(n.min(ROOM))
     }
 
-    // The item at a place.
+    // The item at a place; past the count, what stands there is none of the plan's.
     pub fn item(&self, i: usize) -> Item
         requires { i < plan_room }
         ensures { i < length self.now → result ≡ get_or self.now i no_item }

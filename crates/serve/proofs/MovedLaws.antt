@@ -5,11 +5,10 @@ use mathlib.Core.Path.{◌≡◌, sym, ap, ◌∙◌, subst}
 use mathlib.Core.List.{List, []}
 use native.Mathlib.Omega.{arith}
 use lib.ListN.{length}
-use Rattle.octets.specs.Search.{count_if}
 use Rattle.kinds.specs.declared.Item.{Item}
 use Rattle.sheet.specs.Sheet.{most_farms}
 use Rattle.outsheet.specs.Sheet.{sheet_of}
-use Rattle.outsheet.specs.Replies.{entries_of, is_long_item}
+use Rattle.outsheet.specs.Replies.{entries_of}
 use Rattle.plan.specs.Plan.{plan_room}
 use Rattle.outsheet.specs.Contracts.{least_output, Room, Wrote}
 use Rattle.outsheet.proofs.RoomLaws.{room_for}

@@ -1,6 +1,5 @@
 -- `ask` meets its contract.
 -- Assumes nothing.
-use mathlib.Core.Path.{sym, ◌∙◌}
 use native.Mathlib.Omega.{arith}
 use Rattle.model.specs.Farm.{seat_count}
 use Rattle.closing.proofs.DidLaws.{did_start, did_seat, did-all}

@@ -20,14 +20,11 @@ fits : (row version at room : ℕ) (farm : List ℕ) → length farm ≡ farm_re
     → Fits (entry row send (identity_bytes version farm)) at room
 fits row version at room farm is h = rw (eq-eqb (length farm) farm_record_size is) at h
 
-pub put_identity-requires : goal.put_identity-requires
-put_identity-requires c =
+pub put_identity-requires-clause-at_in_bounds : goal.put_identity-requires-clause-at_in_bounds
+put_identity-requires-clause-at_in_bounds c =
     let a = c.args in
     let is = c.if-farm-eq-RECORD.true in
-    record {
-      at_in_bounds = omega (arith, (fits _ _ _ _ _ is c.requires).wide, length_identity a.version a.farm.now is, c.put_head.auto.out);
-      farm_len = is;
-    }
+    omega (arith, (fits _ _ _ _ _ is c.requires).wide, length_identity a.version a.farm.now is, c.put_head.auto.out)
 
 pub returns-then-farm-eq-RECORD : goal.returns-then-farm-eq-RECORD
 returns-then-farm-eq-RECORD c =

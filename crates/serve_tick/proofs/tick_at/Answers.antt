@@ -8,9 +8,6 @@ use Rattle.table.specs.Block.{farm_of, Whole}
 use Rattle.decide.specs.SiteSheet.{site_sheet}
 use Rattle.closing.specs.Did.{RowsFit, Seated}
 use Rattle.serve.proofs.BlockLaws.{lent_is, did-lent}
-use Rattle.serve_tick.proofs.tick_at.Reads as reads
-use Rattle.serve_tick.proofs.tick_at.Lts as lts
-use Rattle.farm_tick.proofs.tick.Reads as tick-reads
 use Rattle.serve_tick.proofs.tick_at.Goals as goal
 
 pub tick-requires : goal.tick-requires

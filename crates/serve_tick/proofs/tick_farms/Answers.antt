@@ -1,6 +1,5 @@
 -- `tick_farms` meets its contract.
 -- Assumes nothing.
-use Prim.Native.Nat.{◌-◌}
 use mathlib.Core.Path.{◌∙◌, sym}
 use native.Mathlib.Omega.{arith}
 use Rattle.sheet.proofs.LengthLaws.{good_lengths}
@@ -8,11 +7,6 @@ use Rattle.site.proofs.SiteLaws.{sited_fit}
 use Rattle.farm.proofs.SeatedLaws.{good_seated}
 use Rattle.serve.proofs.MovedLaws.{ready_below}
 use Rattle.serve_tick.proofs.TickLaws.{ready_still, ticked-none, ticked-more, ticked-all}
-use Rattle.serve_tick.proofs.tick_farms.Reads as reads
-use Rattle.serve_tick.proofs.tick_farms.Lts as lts
-use Rattle.serve_tick.proofs.tick_at.Reads as tick-at-reads
-use Rattle.sheet.proofs.head.farm_count.Reads as farm-count-reads
-use Rattle.site.proofs.site_of.Reads as site-of-reads
 use Rattle.serve_tick.proofs.tick_farms.Goals as goal
 
 pub farm_count-n-requires : goal.farm_count-n-requires

@@ -2,11 +2,6 @@
 -- Assumes nothing.
 use Prim.Native.Nat.{◌-◌, ◌≤◌}
 use Rattle.serve_tick.specs.Ticked.{TickedTo}
-use Rattle.serve_tick.proofs.tick_farms.Reads as reads
-use Rattle.serve_tick.proofs.tick_farms.Lts as lts
-use Rattle.serve_tick.proofs.tick_at.Reads as tick-at-reads
-use Rattle.sheet.proofs.head.farm_count.Reads as farm-count-reads
-use Rattle.site.proofs.site_of.Reads as site-of-reads
 use Rattle.serve_tick.proofs.tick_farms.Given as goal
 
 abbrev pub invariant-loop-i : goal.invariant-loop-i

@@ -10,7 +10,7 @@ use Rattle.kinds.specs.declared.Item.{Item}
 use Rattle.outsheet.specs.Sheet.{Entry, entry_bytes}
 use Rattle.outsheet.specs.Replies.{entry_of, entries_of}
 use Rattle.plan.specs.Plan.{no_item}
-use Rattle.outsheet.proofs.SheetLaws.{none_laid, first-place, all_laid, next_place, turn_fits, entry-fits, turn}
+use Rattle.outsheet.proofs.SheetLaws.{none_laid, first-place, next_place, turn_fits, entry-fits, turn}
 use Rattle.sheet_writer.proofs.put_entries.Goals as goal
 
 -- what stands past the last entry
@@ -24,12 +24,6 @@ told long p i it h e =
     let entry = entry_of long in
     ap entry (e (omega (arith, h, length-map p entry))) ∙ sym (get_or-map entry p i no_item)
 
-pub overflow_mul-at : goal.overflow_mul-at
-overflow_mul-at c = omega (arith, c.len-n.ensures.few)
-
-pub overflow_add-at : goal.overflow_add-at
-overflow_add-at c = omega (arith, c.len-n.ensures.few)
-
 pub loop-i-init : goal.loop-i-init
 loop-i-init c =
     let es = entries_of c.args.long.now c.args.p.now in
@@ -42,12 +36,6 @@ overflow_cast-at c =
     let es = entries_of c.args.long.now c.args.p.now in
     let h = turn_fits es l.i (past c.args.long.now) (omega (arith, l.invariant.0, c.loop-i-test.true)) in
     omega (arith, l.invariant.2, h, c.requires.short)
-
-pub write16-requires : goal.write16-requires
-write16-requires c = omega (arith, c.requires.short, c.requires.wide, c.loop-i.invariant.0, c.loop-i.invariant.4)
-
-pub item-requires : goal.item-requires
-item-requires c = omega (arith, c.len-n.ensures.few, c.loop-i-test.true)
 
 pub put_entry-at-requires : goal.put_entry-at-requires
 put_entry-at-requires c =
@@ -71,11 +59,3 @@ loop-i-preserved c =
           (put.ensures.bytes ∙ ap (λ (x : Entry). put_at write.new.out l.at (entry_bytes x)) e),
       put.auto.out ∙ write.auto.out ∙ l.invariant.4,
     )
-
-pub shape_of-out : goal.shape_of-out
-shape_of-out c = c.loop-i.invariant.4
-
-pub returns : goal.returns
-returns c =
-    let l = c.loop-i in
-    all_laid (entries_of c.args.long.now c.args.p.now) c.args.out.now l.out l.at l.i (omega (arith, l.invariant.0, l.invariant.1, c.loop-i-test.false)) l.invariant.2 l.invariant.3
