@@ -32,7 +32,8 @@ impl Hand {
 
     // One read into what is free after the bytes in hand; how many it brought.
     fn refill<F: Read>(&mut self, file: &mut F) -> io::Result<usize> {
-        let got = file.read(&mut self.bytes[self.have..])?;
+        let bytes = &mut self.bytes[..];
+        let got = file.read(&mut bytes[self.have..])?;
         self.have += got;
         Ok(got)
     }
@@ -91,7 +92,8 @@ fn read_on<R: Print + Eprint, F: Read>(
 
 // "After the last record": the farms' lines and the last line.
 fn finish<R: Print + Eprint>(rt: &R, rig: &mut Rig, e: Ending) {
-    rig.text.say_farms(rt, &rig.sheet[..rig.lent.sheet], &rig.table);
+    rig.text
+        .say_farms(rt, &rig.sheet[..rig.lent.sheet], &rig.table);
     rig.text.say_last(rt, e);
 }
 

@@ -24,7 +24,7 @@ const ROOM: usize = 4096;
 fn asked_for<R: Env>(rt: &R) -> Option<Style> {
     let mut word = [0; ROOM];
     match rt.arg(2, &mut word) {
-        Ok(n) => (word[..n] == *b"explain").then_some(Style::Words),
+        Ok(n) => (word[..n] == b"explain"[..]).then_some(Style::Words),
         Err(FillError::NotPresent) => Some(Style::Lines),
         Err(FillError::TooLong) => None,
     }
