@@ -92,8 +92,8 @@ fn read_on<R: Print + Eprint, F: Read>(
 
 // "After the last record": the farms' lines and the last line.
 fn finish<R: Print + Eprint>(rt: &R, rig: &mut Rig, e: Ending) {
-    rig.text
-        .say_farms(rt, &rig.sheet[..rig.lent.sheet], &rig.table);
+    let sheet = &rig.sheet[..rig.lent.sheet];
+    rig.text.say_farms(rt, sheet, &rig.table);
     rig.text.say_last(rt, e);
 }
 

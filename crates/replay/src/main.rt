@@ -35,8 +35,7 @@ fn asked_for<R: Env>(rt: &R) -> Option<Style> {
 fn play<R: Files + Print + Eprint, E: Print>(rt: &R, errors: &E, path: &[u8], style: Style) {
     let Ok(name) = str::from_utf8(path) else {
         let _ = errors.write_all(path);
-        fail(rt, "", io::Error::from_raw_os_error(NO_TEXT));
-        return;
+        return fail(rt, "", io::Error::from_raw_os_error(NO_TEXT));
     };
     match fs::open(rt, name) {
         Ok(mut file) => dayfile::play(rt, &mut file, path, style),

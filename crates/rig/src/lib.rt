@@ -97,8 +97,9 @@ impl Rig {
             &mut assembling[..lent.assembling],
         );
         self.calls = self.calls.wrapping_add(1);
+        let given = rest.len();
         self.text
-            .say_call(rt, self.calls, call, rest.len(), a, &self.output);
+            .say_call(rt, self.calls, call, given, a, &self.output);
     }
 
     fn lend_sheet(&mut self, rest: &[u8])
