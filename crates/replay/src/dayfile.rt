@@ -11,8 +11,8 @@ use say::text::Style;
 use std::io;
 use std::io::Read;
 
-// The bytes in hand: the first of the buffer, which is twice the longest record, so that there is always room to read into. They begin at
-// the file's byte `base`.
+// The bytes in hand: the first of the buffer, which is the program's own memory and twice the longest record, so that there is always room
+// to read into. They begin at the file's byte `base`.
 #[derive(Drop)]
 struct Hand {
     bytes: [u8; SPACE],

@@ -18,7 +18,7 @@ pub enum Style {
     Words,
 }
 
-// So much of it is used.
+// So many of the bytes are used. They are the program's own memory: no heap is asked for.
 #[derive(Drop)]
 pub struct Text {
     pub style: Style,
