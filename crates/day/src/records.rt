@@ -1,7 +1,7 @@
 // The records of a day's file. Their meaning stands in specs/Records.antt, a definition for each row of the format's table.
-ghost use Rattle.std.specs.Prelude.{◌≡◌, ◌≤◌, length};
+ghost use Rattle.std.specs.Prelude.{◌≡◌, ◌-◌, ◌≤◌, length};
 ghost use Rattle.day.specs.Records.{fixed_of_call, fixed_of, none_in, only_in, first_in, controller_in, rooms_in, damage_in, record_of, record_in};
-ghost use Rattle.day.specs.Next.{next_at, Lies};
+ghost use Rattle.day.specs.Next.{next_at, Among, Lies};
 
 use kinds::{FarmNo, RowNo};
 
@@ -103,7 +103,8 @@ fn first_in(f: &[u8]) -> Option<u8>
 }
 
 fn controller_in(f: &[u8]) -> Option<Record>
-    ensures { result ≡ controller_in f.now }
+    ensures is { result ≡ controller_in f.now }
+    ensures among { Among result (length f.now) }
 {
     if f.len() < 5 {
         return None;
@@ -115,7 +116,8 @@ fn controller_in(f: &[u8]) -> Option<Record>
 
 #[tactic(auto, unfolding(crate::specs::Records::rooms_of))]
 fn rooms_in(f: &[u8]) -> Option<Record>
-    ensures { result ≡ rooms_in f.now }
+    ensures is { result ≡ rooms_in f.now }
+    ensures among { Among result (length f.now) }
 {
     if f.len() != 8 {
         return None;
@@ -129,7 +131,8 @@ fn rooms_in(f: &[u8]) -> Option<Record>
 }
 
 fn damage_in(f: &[u8]) -> Option<Record>
-    ensures { result ≡ damage_in f.now }
+    ensures is { result ≡ damage_in f.now }
+    ensures among { Among result (length f.now) }
 {
     if f.len() < 2 {
         return None;
@@ -140,7 +143,8 @@ fn damage_in(f: &[u8]) -> Option<Record>
 // The kind byte says which fields follow.
 #[tactic(auto, unfolding(crate::specs::Records::record_of))]
 fn record_of(kind: u8, f: &[u8]) -> Option<Record>
-    ensures { result ≡ record_of kind f.now }
+    ensures is { result ≡ record_of kind f.now }
+    ensures among { Among result (length f.now) }
 {
     match kind {
         0 => Some(Record::Sheet),
@@ -161,7 +165,8 @@ fn record_of(kind: u8, f: &[u8]) -> Option<Record>
 // "a kind byte, then its fields, and no byte more": b is the record without its length.
 fn record_in(b: &[u8]) -> Option<Record>
     requires { 1 ≤ length b.now }
-    ensures { result ≡ record_in b.now }
+    ensures is { result ≡ record_in b.now }
+    ensures among { Among result (length b.now - 1) }
 {
     record_of(b[0], &b[1..])
 }

@@ -11,8 +11,8 @@ use say::text::Style;
 use std::io;
 use std::io::Read;
 
-// The bytes in hand: the first of the buffer, which is twice the longest record, so that there is always room to read into. They begin at
-// the file's byte `base`.
+// The bytes in hand: the first of the buffer, which is the program's own memory and twice the longest record, so that there is always room
+// to read into. They begin at the file's byte `base`.
 #[derive(Drop)]
 struct Hand {
     bytes: [u8; SPACE],
@@ -32,7 +32,8 @@ impl Hand {
 
     // One read into what is free after the bytes in hand; how many it brought.
     fn refill<F: Read>(&mut self, file: &mut F) -> io::Result<usize> {
-        let got = file.read(&mut self.bytes[self.have..])?;
+        let bytes = &mut self.bytes[..];
+        let got = file.read(&mut bytes[self.have..])?;
         self.have += got;
         Ok(got)
     }
@@ -91,7 +92,8 @@ fn read_on<R: Print + Eprint, F: Read>(
 
 // "After the last record": the farms' lines and the last line.
 fn finish<R: Print + Eprint>(rt: &R, rig: &mut Rig, e: Ending) {
-    rig.text.say_farms(rt, &rig.sheet[..rig.lent.sheet], &rig.table);
+    let sheet = &rig.sheet[..rig.lent.sheet];
+    rig.text.say_farms(rt, sheet, &rig.table);
     rig.text.say_last(rt, e);
 }
 

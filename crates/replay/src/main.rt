@@ -24,7 +24,7 @@ const ROOM: usize = 4096;
 fn asked_for<R: Env>(rt: &R) -> Option<Style> {
     let mut word = [0; ROOM];
     match rt.arg(2, &mut word) {
-        Ok(n) => (word[..n] == *b"explain").then_some(Style::Words),
+        Ok(n) => (word[..n] == b"explain"[..]).then_some(Style::Words),
         Err(FillError::NotPresent) => Some(Style::Lines),
         Err(FillError::TooLong) => None,
     }
@@ -35,8 +35,7 @@ fn asked_for<R: Env>(rt: &R) -> Option<Style> {
 fn play<R: Files + Print + Eprint, E: Print>(rt: &R, errors: &E, path: &[u8], style: Style) {
     let Ok(name) = str::from_utf8(path) else {
         let _ = errors.write_all(path);
-        fail(rt, "", io::Error::from_raw_os_error(NO_TEXT));
-        return;
+        return fail(rt, "", io::Error::from_raw_os_error(NO_TEXT));
     };
     match fs::open(rt, name) {
         Ok(mut file) => dayfile::play(rt, &mut file, path, style),

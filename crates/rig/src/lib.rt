@@ -86,16 +86,20 @@ impl Rig {
     // A call, and what is written of it.
     fn answer<R: Print + Eprint>(&mut self, rt: &R, call: Call, rest: &[u8]) {
         let lent = self.lent;
+        let output = &mut self.output[..];
+        let assembling = &mut self.assembling[..];
         let a = make(
             call,
             rest,
             &self.sheet[..lent.sheet],
             &mut self.table,
-            &mut self.output[..lent.output],
-            &mut self.assembling[..lent.assembling],
+            &mut output[..lent.output],
+            &mut assembling[..lent.assembling],
         );
         self.calls = self.calls.wrapping_add(1);
-        self.text.say_call(rt, self.calls, call, rest.len(), a, &self.output);
+        let given = rest.len();
+        self.text
+            .say_call(rt, self.calls, call, given, a, &self.output);
     }
 
     fn lend_sheet(&mut self, rest: &[u8])

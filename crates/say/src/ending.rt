@@ -1,5 +1,5 @@
 // What is written after the last record: the farms' meters, and how the file ended.
-use crate::text::{Style, Text};
+use crate::text::{Style, Text, flush};
 use kinds::{FarmNo, Meters};
 use lines::Ending;
 use table::TABLE;
@@ -43,6 +43,6 @@ impl Text {
             Style::Lines => lines::put_last(&mut self.bytes, self.used, e),
             Style::Words => explain::closing::put_last(&mut self.bytes, self.used, e),
         };
-        self.flush(rt);
+        flush(rt, &self.bytes, self.used);
     }
 }

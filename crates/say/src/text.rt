@@ -1,16 +1,16 @@
 // The text that lines are gathered in. It is written when it is full: one write for thousands of lines.
-ghost use Rattle.std.specs.Prelude.{◌≡◌, ◌+◌, ◌≤◌};
+ghost use Rattle.std.specs.Prelude.{◌≡◌, ◌+◌, ◌≤◌, length};
 ghost use Rattle.say.specs.Spaces.{text_size, line_size};
 
 use crate::fault::fail;
 
 // The room for the text.
-const TEXT: usize = 262144;
+pub const TEXT: usize = 262144;
 
 // The longest line: an answer's numbers, and an output sheet as long as the buffer, two characters for a byte.
 const LINE: usize = 131200;
 
-// How the calls are told.
+// How the calls are told. It is chosen when the program runs: as a type parameter it would have every call in the program twice.
 #[derive(Clone, Copy)]
 pub enum Style {
     // A line for each, in numbers.
@@ -18,13 +18,22 @@ pub enum Style {
     Words,
 }
 
-// The first bytes are used.
+// So many of the bytes are used. They are the program's own memory: no heap is asked for.
 #[derive(Drop)]
 pub struct Text {
-    pub(crate) style: Style,
-    pub(crate) bytes: [u8; TEXT],
-    pub(crate) used: usize,
+    pub style: Style,
+    pub bytes: [u8; TEXT],
+    pub used: usize,
     ghost within: { used ≤ text_size },
+}
+
+// Writes all that is gathered.
+pub fn flush<R: Print + Eprint>(rt: &R, text: &[u8], used: usize)
+    requires { used ≤ length text.now }
+{
+    if let Err(e) = rt.write_all(&text[..used]) {
+        fail(rt, "standard output", e);
+    }
 }
 
 impl Text {
@@ -38,19 +47,12 @@ impl Text {
         }
     }
 
-    // Writes all that is gathered.
-    pub(crate) fn flush<R: Print + Eprint>(&self, rt: &R) {
-        if let Err(e) = rt.write_all(&self.bytes[..self.used]) {
-            fail(rt, "standard output", e);
-        }
-    }
-
-    // There is room for a line after what is used.
-    pub(crate) fn make_room<R: Print + Eprint>(&mut self, rt: &R)
+    // There is room for the next line after what is used.
+    pub fn make_room<R: Print + Eprint>(&mut self, rt: &R)
         ensures { self.new.used + line_size ≤ text_size }
     {
         if TEXT - self.used < LINE {
-            self.flush(rt);
+            flush(rt, &self.bytes, self.used);
             self.used = 0;
         }
     }
