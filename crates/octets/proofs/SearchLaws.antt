@@ -2,7 +2,7 @@
 -- Assumes nothing.
 use Rattle.std.proofs.Common.{Some, None}
 use mathlib.Core.Path.{◌≡◌, refl, sym, ap, ◌∙◌}
-use mathlib.Core.Bool.{Bool, true, false}
+use mathlib.Core.Bool.{Bool, true, false, ◌&&◌}
 use mathlib.Core.List.{List, [], ◌∷◌}
 use Prim.Native.Nat.{ℕ, ◌+◌, ◌≤◌, ◌<◌}
 use native.Mathlib.Numerals.{add-one}
@@ -12,6 +12,8 @@ use lib.ListN.{length, get_or, drop, drop_of_length-le}
 use lib.Seq.{drop-cons}
 use lib.Dec.{eqb}
 use borrow.Author.Tests.{eq-eqb, ne_eqb, eqb-true}
+use Rattle.std.specs.Cmp.Lexicographic.{pointwise}
+use Rattle.octets.specs.Choice.{both}
 use Rattle.octets.specs.Says.{Says}
 use Rattle.octets.specs.Search.{first_at, count_if, some, all, same_list}
 use Rattle.octets.proofs.ChoiceLaws.{both_left, both_right}
@@ -117,4 +119,16 @@ same_short l k h = by (same_list l k) refl
   where
     by : (b : Bool) → same_list l k ≡ b → b ≡ false
     by true e = absurd (h (ap length (same_right l k e)))
+    by false e = refl
+
+-- std's comparison of two slices asks the same
+pub pointwise_same : (l k : List ℕ) → pointwise eqb l k ≡ same_list l k
+unfolding same_list
+pointwise_same [] [] = refl
+pointwise_same [] (y ∷ k) = refl
+pointwise_same (x ∷ l) [] = refl
+pointwise_same (x ∷ l) (y ∷ k) = by (eqb x y) (pointwise_same l k)
+  where
+    by : (b : Bool) → pointwise eqb l k ≡ same_list l k → (b && pointwise eqb l k) ≡ both b (same_list l k)
+    by true e = e
     by false e = refl
