@@ -44,11 +44,10 @@ impl Clock {
     pub fn stepped(self) -> Self
         ensures { result ≡ stepped self }
     {
-        let n = self.ticks;
-        if n < u16::MAX {
-            return Self { ticks: n + 1 };
+        match self.ticks.checked_add(1) {
+            Some(ticks) => Self { ticks },
+            None => self,
         }
-        Self { ticks: n }
     }
 }
 

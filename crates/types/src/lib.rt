@@ -111,73 +111,34 @@ const TYPES: [Kind; 14] = [
 ];
 
 // The table's rule: its lines are document 01's.
-fn line(i: usize) -> Kind
-    requires { i < 14 }
-    ensures { result ≡ line_at i }
+fn lines() -> &'static [Kind]
+    ensures { result.now ≡ types }
 {
-    TYPES[i]
+    &TYPES
 }
 
 fn is_of(k: Kind, port: u8, kind: u16) -> bool
     ensures { result ≡ is_of port kind k }
 {
-    if k.port != port {
-        return false;
-    }
-    k.kind == kind
+    k.port == port && k.kind == kind
 }
 
 fn allows(k: Kind, port: u8, kind: u16, n: u32) -> bool
     ensures { result ≡ is_of_length port kind n k }
 {
-    if !is_of(k, port, kind) {
-        return false;
-    }
-    if n < k.least {
-        return false;
-    }
-    n <= k.most
+    is_of(k, port, kind) && k.least <= n && n <= k.most
 }
 
-// What is asked of the table: a line of the type, or one that allows this length too.
-#[derive(Clone, Copy)]
-enum Asked {
-    AnyLength,
-    Length(u32),
-}
-
-fn meets(k: Kind, port: u8, kind: u16, asked: Asked) -> bool
-    ensures { result ≡ is_asked asked port kind k }
-{
-    match asked {
-        Asked::AnyLength => is_of(k, port, kind),
-        Asked::Length(n) => allows(k, port, kind, n),
-    }
-}
-
-fn some_line(port: u8, kind: u16, asked: Asked) -> bool
-    ensures { result ≡ some (is_asked asked port kind) types }
-{
-    let mut i = 0;
-    while i < LINES {
-        if meets(line(i), port, kind, asked) {
-            return true;
-        }
-        i += 1;
-    }
-    false
-}
-
-// The type is known on the port.
+// The type is known on the port. Any byte may be asked about, so a port is no enum: a number that is neither knows no type.
 pub fn known(port: u8, kind: u16) -> bool
     ensures { result ≡ known_on port kind }
 {
-    some_line(port, kind, Asked::AnyLength)
+    lines().iter().any(|k| is_of(*k, port, kind))
 }
 
 // The length is right for the type.
 pub fn length_fits(port: u8, kind: u16, n: u32) -> bool
     ensures { result ≡ length_fits port kind n }
 {
-    some_line(port, kind, Asked::Length(n))
+    lines().iter().any(|k| allows(*k, port, kind, n))
 }

@@ -1,9 +1,0 @@
--- `line` meets its contract: the constant table and the definition's list are the same by computation.
--- Assumes nothing.
-use mathlib.Core.Path.{refl}
-use Rattle.types.specs.Types.{types}
-use Rattle.types.proofs.line.Goals as goal
-
-pub returns : goal.returns
-unfolding types
-returns c = refl
