@@ -1,10 +1,11 @@
 -- Laws for a loop that asks a question of a list from its front on: what is left of the list decides.
 -- Assumes nothing.
-use Rattle.std.proofs.Common.{Some, None}
+use Rattle.std.proofs.Common.{Some, None, IsTrue, ◌↔◌, slice_index_or}
+use Rattle.std.specs.List.{Any}
 use mathlib.Core.Path.{◌≡◌, refl, sym, ap, ◌∙◌}
 use mathlib.Core.Bool.{Bool, true, false, ◌&&◌}
 use mathlib.Core.List.{List, [], ◌∷◌}
-use Prim.Native.Nat.{ℕ, ◌+◌, ◌≤◌, ◌<◌}
+use Prim.Native.Nat.{ℕ, zero, suc, ◌+◌, ◌≤◌, ◌<◌}
 use native.Mathlib.Numerals.{add-one}
 use native.Mathlib.Nat.{zero-add}
 use native.Mathlib.Omega.{arith}
@@ -13,11 +14,11 @@ use lib.Seq.{drop-cons}
 use lib.Dec.{eqb}
 use borrow.Author.Tests.{eq-eqb, ne_eqb, eqb-true}
 use Rattle.std.specs.Cmp.Lexicographic.{pointwise}
-use Rattle.octets.specs.Choice.{both}
+use Rattle.octets.specs.Choice.{both, either}
 use Rattle.octets.specs.Says.{Says}
 use Rattle.octets.specs.Search.{first_at, count_if, some, all, same_list}
 use Rattle.octets.proofs.ChoiceLaws.{both_left, both_right}
-use Rattle.octets.proofs.SaysLaws.{never}
+use Rattle.octets.proofs.SaysLaws.{never, says-yes, says_no, says_of, says_same}
 
 module _ {A : Type 0} where
   pub drop_next : (l : List A) (i : ℕ) (d : A) → i < length l → drop i l ≡ get_or l i d ∷ drop (i + 1) l
@@ -77,6 +78,26 @@ module _ {A : Type 0} where
     pub all_end : all p (drop i l) ≡ true
     unfolding all
     all_end = rw (drop-none l i h)
+
+-- ---- what std says of a chain's `any`
+
+module _ {A : Type 0} (p : A → Bool) where
+  pub some_says : (l : List A) → Says (some p l) (Any (λ x. IsTrue (p x)) l)
+  unfolding some
+  some_says [] = says_no (λ (a : Any (λ x. IsTrue (p x)) []). absurd (omega (arith, a.2)))
+  some_says (x ∷ l) = by (p x) refl (some_says l)
+    where
+      later : p x ≡ false → (k : ℕ) (y : A) → k < length (x ∷ l) → slice_index_or (x ∷ l) k y ≡ y → p y ≡ true → Any (λ x. IsTrue (p x)) l
+      later e zero y h q t = absurd (never (sym e ∙ ap p q ∙ t))
+      later e (suc k) y h q t = (k, y, omega arith, q, t)
+
+      by : (b : Bool) → p x ≡ b → Says (some p l) (Any (λ x. IsTrue (p x)) l) → Says (either b (some p l)) (Any (λ x. IsTrue (p x)) (x ∷ l))
+      by true e s = says-yes (0, x, omega arith, refl, e)
+      by false e s =
+          says_of (λ a. (suc a.0, a.1, omega (arith, a.2), a.3, a.4)) (λ (a : Any (λ x. IsTrue (p x)) (x ∷ l)). later e a.0 a.1 a.2 a.3 a.4) s
+
+  pub some_any : (l : List A) (b : Bool) → (IsTrue b ↔ Any (λ x. IsTrue (p x)) l) → b ≡ some p l
+  some_any l b h = let s : Says b (Any (λ x. IsTrue (p x)) l) = record { right = h.0; all = h.1 } in says_same s (some_says l)
 
 -- ---- two lists side by side
 

@@ -1,10 +1,8 @@
 -- "A table of types says port and lengths."
 -- Assumes nothing: these are definitions.
-use Rattle.std.specs.Prelude.{ℕ, Bool, List, [], ◌∷◌, get_or, eqb, leb}
+use Rattle.std.specs.Prelude.{ℕ, Bool, List, [], ◌∷◌, eqb, leb}
 use Rattle.octets.specs.Choice.{both}
 use Rattle.octets.specs.Search.{some}
-use Rattle.types.specs.declared.Asked.{Asked}
-use Rattle.types.specs.declared.Asked.TheVariants.{AnyLength, Length}
 use Rattle.types.specs.declared.Kind.{Kind}
 
 -- the two ports
@@ -42,10 +40,6 @@ types =
     ∷ kind_of 0x4003 udp 0 0
     ∷ []
 
--- the line with a number; past the end the machine's all zeros
-abbrev pub line_at : ℕ → Kind
-line_at i = get_or types i (kind_of 0 0 0 0)
-
 -- the line is of this type on this port
 abbrev pub is_of : ℕ → ℕ → Kind → Bool
 is_of port kind k = both (eqb k.port port) (eqb k.kind kind)
@@ -53,11 +47,6 @@ is_of port kind k = both (eqb k.port port) (eqb k.kind kind)
 -- and allows this length
 abbrev pub is_of_length : ℕ → ℕ → ℕ → Kind → Bool
 is_of_length port kind n k = both (is_of port kind k) (both (leb k.least n) (leb n k.most))
-
--- the two questions as one, for the one loop that walks the table
-abbrev pub is_asked : Asked → ℕ → ℕ → Kind → Bool
-is_asked AnyLength port kind k = is_of port kind k
-is_asked (Length n) port kind k = is_of_length port kind n k
 
 -- some line has this type on this port: it is known there
 unfoldable pub known_on : ℕ → ℕ → Bool

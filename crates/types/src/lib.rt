@@ -1,9 +1,8 @@
 // The constant table of payload types, and the two questions that are asked of it.
 #![tactic(auto)]
 
-ghost use Rattle.std.specs.Prelude.{◌≡◌, ◌<◌};
-ghost use Rattle.octets.specs.Search.{some};
-ghost use Rattle.types.specs.Types.{types, line_at, is_of, is_of_length, is_asked, known_on, length_fits};
+ghost use Rattle.std.specs.Prelude.{◌≡◌};
+ghost use Rattle.types.specs.Types.{types, is_of, is_of_length, known_on, length_fits};
 
 // A line of the table: a payload type, the port that it is known on, the least and the greatest payload length.
 #[derive(Clone, Copy)]
@@ -20,9 +19,8 @@ pub const UDP: u8 = 1;
 
 const OR_MORE: u32 = 4294967295;
 
-const LINES: usize = 14;
-
-// The lines of TCP first, and the one that a working day asks for most before the others.
+// The lines of TCP first, and the one that a working day asks for most before the others. Each line is a literal, since a
+// constant's value calls no function.
 const TYPES: [Kind; 14] = [
     Kind {
         kind: 0x8001,
@@ -117,28 +115,30 @@ fn lines() -> &'static [Kind]
     &TYPES
 }
 
-fn is_of(k: Kind, port: u8, kind: u16) -> bool
-    ensures { result ≡ is_of port kind k }
-{
-    k.port == port && k.kind == kind
-}
+impl Kind {
+    fn is_of(self, port: u8, kind: u16) -> bool
+        ensures { result ≡ is_of port kind self }
+    {
+        self.port == port && self.kind == kind
+    }
 
-fn allows(k: Kind, port: u8, kind: u16, n: u32) -> bool
-    ensures { result ≡ is_of_length port kind n k }
-{
-    is_of(k, port, kind) && k.least <= n && n <= k.most
+    fn allows(self, port: u8, kind: u16, n: u32) -> bool
+        ensures { result ≡ is_of_length port kind n self }
+    {
+        self.is_of(port, kind) && self.least <= n && n <= self.most
+    }
 }
 
 // The type is known on the port. Any byte may be asked about, so a port is no enum: a number that is neither knows no type.
 pub fn known(port: u8, kind: u16) -> bool
     ensures { result ≡ known_on port kind }
 {
-    lines().iter().any(|k| is_of(*k, port, kind))
+    lines().iter().any(|k| k.is_of(port, kind))
 }
 
 // The length is right for the type.
 pub fn length_fits(port: u8, kind: u16, n: u32) -> bool
     ensures { result ≡ length_fits port kind n }
 {
-    lines().iter().any(|k| allows(*k, port, kind, n))
+    lines().iter().any(|k| k.allows(port, kind, n))
 }
