@@ -29,22 +29,13 @@ pub fn read(s: &[u8], at: usize) -> Header
 fn is_everyday(kind: u16, n: u32) -> bool
     ensures { result ≡ everyday kind n }
 {
-    if kind != 0x8001 {
-        return false;
-    }
-    if n < 5 {
-        return false;
-    }
-    n <= 2048
+    kind == 0x8001 && 5 <= n && n <= 2048
 }
 
 pub fn judge(h: Header) -> Result<(), Fault>
     ensures { result ≡ verdict_of h }
 {
-    if h.version != 3 {
-        return Err(Fault::Pattern);
-    }
-    if h.inverse != 252 {
+    if h.version != 3 || h.inverse != 252 {
         return Err(Fault::Pattern);
     }
     if is_everyday(h.kind, h.length) {
@@ -56,11 +47,10 @@ pub fn judge(h: Header) -> Result<(), Fault>
     if 2048 < h.length {
         return Err(Fault::TooLong);
     }
-    if types::length_fits(types::TCP, h.kind, h.length) {
-        Ok(())
-    } else {
-        Err(Fault::WrongLength)
+    if !types::length_fits(types::TCP, h.kind, h.length) {
+        return Err(Fault::WrongLength);
     }
+    Ok(())
 }
 
 // The NACK's code.
@@ -79,10 +69,5 @@ pub fn code_of(f: Fault) -> u8
 pub fn closes_row(f: Fault) -> bool
     ensures { result ≡ closes f }
 {
-    match f {
-        Fault::Pattern => true,
-        Fault::UnknownType => false,
-        Fault::TooLong => false,
-        Fault::WrongLength => true,
-    }
+    matches!(f, Fault::Pattern | Fault::WrongLength)
 }
