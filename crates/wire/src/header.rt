@@ -32,6 +32,7 @@ fn is_everyday(kind: u16, n: u32) -> bool
     kind == 0x8001 && 5 <= n && n <= 2048
 }
 
+#[tactic(auto, unfolding(crate::specs::Header::verdict_of))]
 pub fn judge(h: Header) -> Result<(), Fault>
     ensures { result ≡ verdict_of h }
 {
