@@ -11,43 +11,32 @@ use kinds::{DatagramVerdict, Reply};
 fn if_named(asked: &[u8], name: &[u8]) -> Option<Reply>
     ensures { result ≡ if_named (same_list asked.now name.now) }
 {
-    if octets::same(asked, name) {
-        Some(Reply::Identity)
-    } else {
-        None
-    }
+    octets::same(asked, name).then_some(Reply::Identity)
 }
 
 // What a right datagram of this type gets of the farm with this record.
+#[tactic(auto, unfolding(datagram::specs::Datagram::answer_by))]
 fn answer_by(kind: u16, payload: &[u8], farm: &[u8], opened: u8) -> Option<Reply>
     requires { length farm.now ≡ 33 }
     ensures { result ≡ answer_by kind payload.now farm.now opened }
 {
-    if kind == 0x0001 {
-        return Some(Reply::Identity);
+    match kind {
+        0x0001 => Some(Reply::Identity),
+        0x0002 => if_named(payload, &farm[21..27]),
+        0x0003 => if_named(payload, &farm[4..21]),
+        0x4001 => Some(Reply::Status(farm[2], opened)),
+        0x4003 => Some(Reply::PowerMode(farm[3])),
+        _ => None,
     }
-    if kind == 0x0002 {
-        return if_named(payload, &farm[21..27]);
-    }
-    if kind == 0x0003 {
-        return if_named(payload, &farm[4..21]);
-    }
-    if kind == 0x4001 {
-        return Some(Reply::Status(farm[2], opened));
-    }
-    if kind == 0x4003 {
-        return Some(Reply::PowerMode(farm[3]));
-    }
-    None
 }
 
 // What a datagram to the farm with this record (33 bytes of the farm sheet) and so many open rows gets.
+#[tactic(auto, unfolding(datagram::specs::Datagram::answer_to))]
 pub fn answer(d: &[u8], farm: &[u8], opened: u8) -> Option<Reply>
     requires { length farm.now ≡ 33 }
     ensures { result ≡ answer_to d.now farm.now opened }
 {
-    let v = datagram_verdict::judge(d);
-    match v {
+    match datagram_verdict::judge(d) {
         DatagramVerdict::NotAnswered => None,
         DatagramVerdict::Passes => {
             let h = wire::header::read(d, 0);

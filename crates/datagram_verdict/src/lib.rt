@@ -11,31 +11,20 @@ use wire::header::Header;
 fn is_right_for(h: Header) -> bool
     ensures { result ≡ right_for h }
 {
-    if h.version == 3 {
-        return h.inverse == 252;
+    match (h.version, h.inverse) {
+        (3, 252) => true,
+        (255, 0) => (1..=3).contains(&h.kind),
+        _ => false,
     }
-    if h.version != 255 {
-        return false;
-    }
-    if h.inverse != 0 {
-        return false;
-    }
-    if h.kind < 1 {
-        return false;
-    }
-    h.kind <= 3
 }
 
 fn is_length_right(h: Header, following: usize) -> bool
     ensures { result ≡ length_right h following }
 {
-    if !types::length_fits(types::UDP, h.kind, h.length) {
-        return false;
-    }
-    let n = h.length as usize;
-    n == following
+    types::length_fits(types::UDP, h.kind, h.length) && h.length as usize == following
 }
 
+#[tactic(auto, unfolding(datagram::specs::Datagram::head_verdict))]
 fn judge_head(h: Header, following: usize) -> DatagramVerdict
     ensures { result ≡ head_verdict h following }
 {
@@ -45,14 +34,14 @@ fn judge_head(h: Header, following: usize) -> DatagramVerdict
     if !types::known(types::UDP, h.kind) {
         return DatagramVerdict::Wrong(Fault::UnknownType);
     }
-    if is_length_right(h, following) {
-        DatagramVerdict::Passes
-    } else {
-        DatagramVerdict::Wrong(Fault::WrongLength)
+    if !is_length_right(h, following) {
+        return DatagramVerdict::Wrong(Fault::WrongLength);
     }
+    DatagramVerdict::Passes
 }
 
 // The verdict on any bytes that came as a datagram.
+#[tactic(auto, unfolding(datagram::specs::Datagram::datagram_verdict))]
 pub fn judge(d: &[u8]) -> DatagramVerdict
     ensures { result ≡ datagram_verdict d.now }
 {

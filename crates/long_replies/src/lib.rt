@@ -18,7 +18,9 @@ pub fn put_message(
     requires user_len_bound { length user.now < 65532 }
     ensures { out.new ≡ put_at out.old at (message_bytes version controller tester user.now) }
 {
-    let n = user.len() + 4;
+    let [length_high, length_low] = (user.len() as u16 + 4).to_be_bytes();
+    let [controller_high, controller_low] = controller.to_be_bytes();
+    let [tester_high, tester_low] = tester.to_be_bytes();
     let b = [
         version,
         255 - version,
@@ -26,12 +28,12 @@ pub fn put_message(
         1,
         0,
         0,
-        (n / 256) as u8,
-        (n % 256) as u8,
-        (controller / 256) as u8,
-        (controller % 256) as u8,
-        (tester / 256) as u8,
-        (tester % 256) as u8,
+        length_high,
+        length_low,
+        controller_high,
+        controller_low,
+        tester_high,
+        tester_low,
     ];
     octets::put(out, at, &b);
     octets::put(out, at + 12, user);
@@ -48,6 +50,5 @@ pub fn put_identity(out: &mut [u8], at: usize, version: u8, farm: &[u8])
     octets::put(out, at + 8, &farm[4..21]);
     octets::put(out, at + 25, &farm[0..2]);
     octets::put(out, at + 27, &farm[21..33]);
-    let further = [0u8];
-    octets::put(out, at + 39, &further);
+    octets::put(out, at + 39, &[0]);
 }

@@ -1,5 +1,6 @@
 pub mod PutLaws
 pub mod PartsLaws
+pub mod NumbersLaws
 pub mod SaysLaws
 pub mod ChoiceLaws
 pub mod FoldLaws
