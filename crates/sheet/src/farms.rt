@@ -11,35 +11,34 @@ pub fn has_farm(s: &[u8], f: FarmNo) -> bool
     requires { head_size ≤ length s.now }
     ensures { result ≡ ltb f.0 (farm_count s.now) }
 {
-    let i = f.0 as usize;
-    i < farm_count(s)
+    usize::from(f.0) < farm_count(s)
+}
+
+fn place(f: FarmNo) -> usize
+    ensures { result ≡ farm_at f.0 }
+{
+    HEAD_SIZE + usize::from(f.0) * FARM_SIZE
 }
 
 pub fn entity(s: &[u8], f: FarmNo) -> u16
     requires { farm_at (f.0 + 1) ≤ length s.now }
     ensures { result ≡ entity_of s.now f.0 }
 {
-    let i = f.0 as usize;
-    let p = HEAD_SIZE + i * FARM_SIZE;
-    octets::read16(s, p)
+    octets::read16(s, place(f))
 }
 
 pub fn quota(s: &[u8], f: FarmNo) -> u8
     requires { farm_at (f.0 + 1) ≤ length s.now }
     ensures { result ≡ quota_of s.now f.0 }
 {
-    let i = f.0 as usize;
-    let p = HEAD_SIZE + i * FARM_SIZE;
-    s[p + 2]
+    s[place(f) + 2]
 }
 
 pub fn power_mode(s: &[u8], f: FarmNo) -> u8
     requires { farm_at (f.0 + 1) ≤ length s.now }
     ensures { result ≡ mode_of s.now f.0 }
 {
-    let i = f.0 as usize;
-    let p = HEAD_SIZE + i * FARM_SIZE;
-    s[p + 3]
+    s[place(f) + 3]
 }
 
 // The farm's own bytes, lent on: VIN, EID and GID are read from there.
@@ -47,8 +46,6 @@ pub fn record_of(s: &[u8], f: FarmNo) -> &[u8]
     requires { farm_at (f.0 + 1) ≤ length s.now }
     ensures { result.now ≡ farm_record s.now f.0 }
 {
-    let i = f.0 as usize;
-    let a = HEAD_SIZE + i * FARM_SIZE;
-    let e = a + FARM_SIZE;
-    &s[a..e]
+    let at = place(f);
+    &s[at..at + FARM_SIZE]
 }

@@ -33,14 +33,11 @@ fn lookup_in(s: &[u8], at: usize, n: usize, address: u16) -> Option<Known>
     requires { at + n * known_size ≤ length s.now }
     ensures { result ≡ lookup address (knowns_at s.now at n) }
 {
-    let mut p = at;
-    let mut left = n;
-    while 0 < left {
-        if octets::read16(s, p) == address {
-            return Some(known_at(s, p));
+    for i in 0..n {
+        let known = known_at(s, at + i * KNOWN_SIZE);
+        if known.address == address {
+            return Some(known);
         }
-        p += KNOWN_SIZE;
-        left -= 1;
     }
     None
 }

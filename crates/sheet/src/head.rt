@@ -8,28 +8,28 @@ pub fn farm_count(s: &[u8]) -> usize
     requires { head_size ≤ length s.now }
     ensures { result ≡ farm_count s.now }
 {
-    octets::read16(s, 0) as usize
+    usize::from(octets::read16(s, 0))
 }
 
 pub fn tester_count(s: &[u8]) -> usize
     requires { head_size ≤ length s.now }
     ensures { result ≡ tester_count s.now }
 {
-    octets::read16(s, 2) as usize
+    usize::from(octets::read16(s, 2))
 }
 
 pub fn target_count(s: &[u8]) -> usize
     requires { head_size ≤ length s.now }
     ensures { result ≡ target_count s.now }
 {
-    octets::read16(s, 4) as usize
+    usize::from(octets::read16(s, 4))
 }
 
 pub fn testers_at(s: &[u8]) -> usize
     requires { head_size ≤ length s.now }
     ensures { result ≡ testers_at s.now }
 {
-    let farms = octets::read16(s, 0) as usize;
+    let farms = usize::from(octets::read16(s, 0));
     HEAD_SIZE + farms * FARM_SIZE
 }
 
@@ -37,7 +37,7 @@ pub fn targets_at(s: &[u8]) -> usize
     requires { head_size ≤ length s.now }
     ensures { result ≡ targets_at s.now }
 {
-    let farms = octets::read16(s, 0) as usize;
-    let testers = octets::read16(s, 2) as usize;
+    let farms = usize::from(octets::read16(s, 0));
+    let testers = usize::from(octets::read16(s, 2));
     HEAD_SIZE + farms * FARM_SIZE + testers * KNOWN_SIZE
 }

@@ -12,8 +12,7 @@ fn rows_owned(s: &[u8], i: usize) -> usize
     requires { farm_at (i + 1) ≤ length s.now }
     ensures { result ≡ rows_owned s.now i }
 {
-    let p = HEAD_SIZE + i * FARM_SIZE;
-    octets::wide(s[p + 2]) + 1
+    usize::from(s[HEAD_SIZE + i * FARM_SIZE + 2]) + 1
 }
 
 // The rows of the first n farms. A count has two bytes, so n is small, and the sum cannot wrap.
@@ -21,11 +20,9 @@ fn rows_before(s: &[u8], n: usize) -> usize
     requires { (farm_at n ≤ length s.now) × (n < 65536) }
     ensures { result ≡ first_row s.now n }
 {
-    let mut sum: usize = 0;
-    let mut i: usize = 0;
-    while i < n {
+    let mut sum = 0;
+    for i in 0..n {
         sum += rows_owned(s, i);
-        i += 1;
     }
     sum
 }
@@ -35,16 +32,14 @@ pub fn first_row(s: &[u8], f: FarmNo) -> usize
     requires { farm_at f.0 ≤ length s.now }
     ensures { result ≡ first_row s.now f.0 }
 {
-    let i = f.0 as usize;
-    rows_before(s, i)
+    rows_before(s, usize::from(f.0))
 }
 
 pub fn all_rows(s: &[u8]) -> usize
     requires { testers_at s.now ≤ length s.now }
     ensures { result ≡ rows_in s.now }
 {
-    let n = farm_count(s);
-    rows_before(s, n)
+    rows_before(s, farm_count(s))
 }
 
 // The farm that owns a row, and the row's seat within it, 0 to q; none for a row beyond the sheet's.
@@ -52,18 +47,13 @@ pub fn owner_of(s: &[u8], row: RowNo) -> Option<(FarmNo, u8)>
     requires { testers_at s.now ≤ length s.now }
     ensures { result ≡ owner_of s.now row.0 }
 {
-    let n = farm_count(s);
-    let mut left = row.0 as usize;
-    let mut i: usize = 0;
-    while i < n {
+    let mut left = usize::from(row.0);
+    for i in 0..farm_count(s) {
         let own = rows_owned(s, i);
         if left < own {
-            let farm = i as u8;
-            let seat = left as u8;
-            return Some((FarmNo(farm), seat));
+            return Some((FarmNo(i as u8), left as u8));
         }
-        left = left - own;
-        i += 1;
+        left -= own;
     }
     None
 }

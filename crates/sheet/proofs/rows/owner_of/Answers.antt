@@ -5,36 +5,19 @@ use mathlib.Core.Path.{◌≡◌, sym, ap, ◌∙◌}
 use Prim.Native.Nat.{ℕ, suc, ◌-◌}
 use native.Mathlib.Omega.{arith}
 use native.Mathlib.Numerals.{add-one}
-use Rattle.sheet.specs.Sheet.{farm_count}
-use Rattle.sheet.specs.Rows.{owner_from}
+use Rattle.sheet.specs.Rows.{owner_from, owner_of}
 use Rattle.sheet.proofs.RowsLaws.{owner_here, owner_next, owner-none}
 use Rattle.sheet.proofs.rows.owner_of.Goals as goal
-
-pub loop-i-init : goal.loop-i-init
-loop-i-init c =
-    let a = c.args in
-    let r = c.farm_count-n in
-    let e : farm_count a.s.now ≡ r.result - 0 = omega (arith, r.ensures) in
-    (omega arith, r.ensures, omega arith, ap (λ (k : ℕ). owner_from a.s.now k 0 a.row.0) e)
-
-pub rows_owned-own-requires : goal.rows_owned-own-requires
-rows_owned-own-requires c =
-    omega (arith, c.requires, c.loop-i.invariant.1)
-
-pub overflow_cast-farm : goal.overflow_cast-farm
-overflow_cast-farm c = omega (arith, c.loop-i.invariant.2)
-
-pub overflow_cast-seat : goal.overflow_cast-seat
-overflow_cast-seat c = omega (arith, c.loop-i.invariant.2)
 
 pub returns-then-left-own : goal.returns-then-left-own
 returns-then-left-own c =
     let s = c.args.s.now in
     let l = c.loop-i in
-    let n = c.farm_count-n.result in
+    let n = c.farm_count-i-end.result in
     let e : n - l.i ≡ suc (n - suc l.i) = omega arith in
     sym
-    (l.invariant.3
+    (sym (ap (owner_of s) c.from-left.ensures)
+    ∙ l.invariant.2
     ∙ ap (λ (k : ℕ). owner_from s k l.i l.left) e
     ∙ owner_here s (n - suc l.i) l.i l.left (omega (arith, c.rows_owned-own.ensures)))
 
@@ -42,13 +25,12 @@ pub loop-i-preserved : goal.loop-i-preserved
 loop-i-preserved c =
     let s = c.args.s.now in
     let l = c.loop-i in
-    let n = c.farm_count-n.result in
+    let n = c.farm_count-i-end.result in
     let o = c.rows_owned-own in
     let e : n - l.i ≡ suc (n - suc l.i) = omega arith in (
-      omega arith,
-      l.invariant.1,
-      omega (arith, l.invariant.2, o.ensures),
-      l.invariant.3
+      l.invariant.0,
+      omega (arith, l.invariant.1, o.ensures),
+      l.invariant.2
           ∙ ap (λ (k : ℕ). owner_from s k l.i l.left) e
           ∙ owner_next s (n - suc l.i) l.i l.left (omega (arith, o.ensures))
           ∙ ap (λ (k : ℕ). owner_from s (n - suc l.i) (suc l.i) (l.left - k)) (sym o.ensures)
@@ -59,6 +41,10 @@ pub returns : goal.returns
 returns c =
     let s = c.args.s.now in
     let l = c.loop-i in
-    let n = c.farm_count-n.result in
+    let n = c.farm_count-i-end.result in
     let e : n - l.i ≡ 0 = omega arith in
-    sym (l.invariant.3 ∙ ap (λ (k : ℕ). owner_from s k l.i l.left) e ∙ owner-none s l.i l.left)
+    sym
+    (sym (ap (owner_of s) c.from-left.ensures)
+    ∙ l.invariant.2
+    ∙ ap (λ (k : ℕ). owner_from s k l.i l.left) e
+    ∙ owner-none s l.i l.left)

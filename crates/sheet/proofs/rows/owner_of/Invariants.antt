@@ -8,7 +8,4 @@ use Rattle.sheet.specs.Rows.{owner_of, owner_from}
 use Rattle.sheet.proofs.rows.owner_of.Given as goal
 
 abbrev pub invariant-loop-i : goal.invariant-loop-i
-invariant-loop-i l = (l.i ≤ l.n) × (l.n ≡ farm_count l.s) × (l.i + l.left ≤ l.initial.left) × (owner_of l.s l.initial.left ≡ owner_from l.s (l.n - l.i) l.i l.left)
-
-abbrev pub decreases-loop-i : goal.decreases-loop-i
-decreases-loop-i l = l.n - l.i
+invariant-loop-i l = (l.i-end ≡ farm_count l.s) × (l.i + l.left ≤ l.initial.left) × (owner_of l.s l.initial.left ≡ owner_from l.s (l.i-end - l.i) l.i l.left)
