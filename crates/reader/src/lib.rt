@@ -4,7 +4,6 @@
 #![tactic(auto)]
 
 ghost use Rattle.std.specs.Prelude.{◌≡◌, ◌+◌, ◌*◌, ◌≤◌, ◌<◌, ◌^◌, length};
-ghost use Rattle.octets.specs.Choice.{both};
 ghost use Rattle.octets.specs.Says.{Says};
 ghost use Rattle.sheet.specs.Sheet.{head_size, farm_size, known_size};
 ghost use Rattle.sheet.specs.Rules.{GoodFarms, GoodSection};
@@ -35,8 +34,8 @@ pub fn past<'a>(r: Reader<'a>, n: usize, size: usize) -> Reader<'a>
     ensures { (result.bytes ≡ r.entry.bytes) × (result.at ≡ r.entry.at + n * size) }
 {
     Reader {
-        bytes: r.bytes,
         at: r.at + n * size,
+        ..r
     }
 }
 
@@ -56,28 +55,15 @@ pub fn section_here<'a>(r: Reader<'a>, n: usize, farms: usize, most: u8) -> bool
     sheet_records::section_ok(r.bytes, r.at, n, farms, most)
 }
 
-fn all_three(a: bool, b: bool, c: bool) -> bool
-    ensures { result ≡ both a (both b c) }
-{
-    if !a {
-        return false;
-    }
-    if !b {
-        return false;
-    }
-    c
-}
-
 // The walk from the header's end to the last section's, with plain parameters: what every other caller uses.
 pub fn sections_ok(s: &[u8], farms: usize, testers: usize, targets: usize) -> bool
     requires { head_size + farms * farm_size + testers * known_size + targets * known_size ≤ length s.now }
     ensures { Says result (GoodSections s.now farms testers targets) }
 {
     let at_farms = place(s, HEAD_SIZE);
-    let farms_good = farms_here(at_farms, farms);
     let at_testers = past(at_farms, farms, FARM_SIZE);
-    let testers_good = section_here(at_testers, testers, farms, TESTER_FLAG);
     let at_targets = past(at_testers, testers, KNOWN_SIZE);
-    let targets_good = section_here(at_targets, targets, farms, TARGET_FLAG);
-    all_three(farms_good, testers_good, targets_good)
+    farms_here(at_farms, farms)
+        && section_here(at_testers, testers, farms, TESTER_FLAG)
+        && section_here(at_targets, targets, farms, TARGET_FLAG)
 }
