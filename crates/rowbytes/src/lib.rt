@@ -33,6 +33,7 @@ fn state_from(tag: u8, kind: u8, address: u16, ticks: u16) -> RowState
     }
 }
 
+#[tactic(auto, unfolding(crate::specs::RowBytes::state_in))]
 pub fn read_state(s: &[u8]) -> RowState
     requires { length s.now ≡ row_size }
     ensures { result ≡ state_in s.now }
@@ -99,6 +100,7 @@ fn read_head(s: &[u8]) -> [u8; 8]
     [s[0], s[1], s[2], s[3], s[4], s[5], s[6], s[7]]
 }
 
+#[tactic(auto, unfolding(crate::specs::RowBytes::row_from))]
 pub fn read_row(s: &[u8]) -> Row
     requires { length s.now ≡ row_size }
     ensures { result ≡ row_from s.now }
