@@ -97,7 +97,9 @@ fn read_head(s: &[u8]) -> [u8; 8]
     requires { length s.now ≡ head_size }
     ensures { result ≡ s.now }
 {
-    [s[0], s[1], s[2], s[3], s[4], s[5], s[6], s[7]]
+    let mut head = [0; 8];
+    head.copy_from_slice(s);
+    head
 }
 
 #[tactic(auto, unfolding(crate::specs::RowBytes::row_from))]
