@@ -91,14 +91,14 @@ pub struct Meters {
     pub lost: u32,
 }
 
-// Whom an alive check asks: the row with this seat, or all active rows of the farm.
+// Whom an alive check asks: the row with this seat, or all active rows of the farm. No Option: all is not the lack of one.
 #[derive(Clone, Copy)]
 pub enum Check {
     One(u8),
     All,
 }
 
-// What the rules say of a request: a code at once, or an alive check first.
+// What the rules say of a request: a code at once, or an alive check first. No Result: neither is a failure.
 #[derive(Clone, Copy)]
 pub enum Decision {
     Now(u8),
@@ -132,7 +132,7 @@ pub enum Event {
     Skipped(u32),
 }
 
-// The verdict on a datagram; some are never answered, whatever is wrong with them.
+// The verdict on a datagram; some are never answered, whatever is wrong with them. An Option of a Result would only nest the three.
 #[derive(Clone, Copy)]
 pub enum DatagramVerdict {
     NotAnswered,

@@ -84,7 +84,8 @@ fn take_reading(n: u32, head: [u8; 8], room: &mut [u8], input: &[u8]) -> Took
     }
 }
 
-// A payload that is skipped, likewise. The room is not lent: what is skipped is not stored.
+// A payload that is skipped, likewise. The room is not lent: what is skipped is not stored. So the two are no one function: of a call
+// without a room the contract says more, that whatever the room holds stays.
 fn take_skipping(n: u32, head: [u8; 8], input: &[u8]) -> Took
     requires { PossibleAt (Skipping n) head }
     ensures { (room : List ℕ) → taken_of result room ≡ takes (stream_of (Skipping n) head room) input.now }
