@@ -1,4 +1,4 @@
--- Laws for a loop that asks a question of a list from its front on: what is left of the list decides.
+-- Laws for a loop that asks a question of a list from its front on: what is left of the list decides. And what std says of the same questions.
 -- Assumes nothing.
 use Rattle.std.proofs.Common.{Some, None, IsTrue, ◌↔◌, slice_index_or}
 use Rattle.std.specs.List.{Any}
@@ -12,7 +12,7 @@ use native.Mathlib.Omega.{arith}
 use lib.ListN.{length, get_or, drop, drop_of_length-le}
 use lib.Seq.{drop-cons}
 use lib.Dec.{eqb}
-use borrow.Author.Tests.{eq-eqb, ne_eqb, eqb-true}
+use borrow.Author.Tests.{eq-eqb, eqb-true}
 use Rattle.std.specs.Cmp.Lexicographic.{pointwise}
 use Rattle.octets.specs.Choice.{both, either}
 use Rattle.octets.specs.Says.{Says}
@@ -101,21 +101,6 @@ module _ {A : Type 0} (p : A → Bool) where
 
 -- ---- two lists side by side
 
-module _ (l k : List ℕ) (i : ℕ) (h : i < length l) (same : length l ≡ length k) where
-  pub same_next : get_or l i 0 ≡ get_or k i 0 → same_list (drop i l) (drop i k) ≡ same_list (drop (i + 1) l) (drop (i + 1) k)
-  unfolding same_list
-  same_next e =
-      rw (drop_next l i 0 h, drop_next k i 0 (omega arith), eq-eqb (get_or l i 0) (get_or k i 0) e)
-
-  pub same_differ : (get_or l i 0 ≡ get_or k i 0 → ⊥) → same_list (drop i l) (drop i k) ≡ false
-  unfolding same_list
-  same_differ e =
-      rw (drop_next l i 0 h, drop_next k i 0 (omega arith), ne_eqb (get_or l i 0) (get_or k i 0) e)
-
-pub same_end : (l k : List ℕ) (i : ℕ) → length l ≤ i → length k ≤ i → same_list (drop i l) (drop i k) ≡ true
-unfolding same_list
-same_end l k i h g = rw (drop-none l i h, drop-none k i g)
-
 -- the test is true exactly where the lists are equal
 pub same_right : (l k : List ℕ) → same_list l k ≡ true → l ≡ k
 unfolding same_list
@@ -134,13 +119,6 @@ same_all (x ∷ l) = rw (eq-eqb x x refl) (same_all l)
 
 pub same_says : (l k : List ℕ) → Says (same_list l k) (l ≡ k)
 same_says l k = record { right = same_right l k; all = λ e. ap (same_list l) (sym e) ∙ same_all l }
-
-pub same_short : (l k : List ℕ) → (length l ≡ length k → ⊥) → same_list l k ≡ false
-same_short l k h = by (same_list l k) refl
-  where
-    by : (b : Bool) → same_list l k ≡ b → b ≡ false
-    by true e = absurd (h (ap length (same_right l k e)))
-    by false e = refl
 
 -- std's comparison of two slices asks the same
 pub pointwise_same : (l k : List ℕ) → pointwise eqb l k ≡ same_list l k

@@ -5,8 +5,8 @@
 ghost use Rattle.std.specs.Prelude.{◌≡◌, ◌-◌, ltb, length, drop, replicate};
 ghost use Rattle.octets.specs.Choice.{both};
 ghost use Rattle.octets.specs.Search.{same_list};
-ghost use Rattle.wire.specs.Header.{header_size, header_at, verdict_of};
-ghost use Rattle.model.specs.RuleTest.{passes, is_skip_fault, is_skipped, possible_at, is_boundary, tidy_at};
+ghost use Rattle.wire.specs.Header.{header_size, verdict_of};
+ghost use Rattle.model.specs.RuleTest.{passes, is_skipped, possible_at, is_boundary, tidy_at};
 
 use kinds::{Fault, Place};
 use wire::header;
@@ -14,65 +14,18 @@ use wire::header::Header;
 
 const HEADER: usize = 8;
 
-// ---- what the verdict on a header says
-
-fn passes(v: Result<(), Fault>) -> bool
-    ensures { result ≡ passes v }
-{
-    match v {
-        Ok(()) => true,
-        Err(_) => false,
-    }
-}
-
-fn is_skip_fault(fault: Fault) -> bool
-    ensures { result ≡ is_skip_fault fault }
-{
-    match fault {
-        Fault::Pattern => false,
-        Fault::UnknownType => true,
-        Fault::TooLong => true,
-        Fault::WrongLength => false,
-    }
-}
-
-fn is_skipped(v: Result<(), Fault>) -> bool
-    ensures { result ≡ is_skipped v }
-{
-    match v {
-        Ok(()) => false,
-        Err(fault) => is_skip_fault(fault),
-    }
-}
-
 // ---- a payload that is read or skipped: only here is the header judged again
 
-fn is_unfinished(h: Header, n: u32) -> bool
-    ensures { result ≡ ltb n h.length }
+fn reads(h: Header, n: u32) -> bool
+    ensures { result ≡ both (ltb n h.length) (passes (verdict_of h)) }
 {
-    n < h.length
+    n < h.length && header::judge(h).is_ok()
 }
 
-fn reads(head: [u8; HEADER], n: u32) -> bool
-    ensures { result ≡ both (ltb n (header_at head 0).length) (passes (verdict_of (header_at head 0))) }
+fn skips(h: Header, n: u32) -> bool
+    ensures { result ≡ both (ltb n h.length) (is_skipped (verdict_of h)) }
 {
-    let h = header::read(&head, 0);
-    if !is_unfinished(h, n) {
-        return false;
-    }
-    let v = header::judge(h);
-    passes(v)
-}
-
-fn skips(head: [u8; HEADER], n: u32) -> bool
-    ensures { result ≡ both (ltb n (header_at head 0).length) (is_skipped (verdict_of (header_at head 0))) }
-{
-    let h = header::read(&head, 0);
-    if !is_unfinished(h, n) {
-        return false;
-    }
-    let v = header::judge(h);
-    is_skipped(v)
+    n < h.length && matches!(header::judge(h), Err(Fault::UnknownType | Fault::TooLong))
 }
 
 pub fn possible(place: Place, head: [u8; HEADER]) -> bool
@@ -80,8 +33,8 @@ pub fn possible(place: Place, head: [u8; HEADER]) -> bool
 {
     match place {
         Place::Header(n) => n < 8,
-        Place::Reading(n) => reads(head, n),
-        Place::Skipping(n) => skips(head, n),
+        Place::Reading(n) => reads(header::read(&head, 0), n),
+        Place::Skipping(n) => skips(header::read(&head, 0), n),
     }
 }
 
@@ -91,44 +44,31 @@ pub fn possible(place: Place, head: [u8; HEADER]) -> bool
 pub fn is_boundary(place: Place) -> bool
     ensures { result ≡ is_boundary place }
 {
-    match place {
-        Place::Header(n) => n == 0,
-        Place::Reading(_) => false,
-        Place::Skipping(_) => false,
-    }
+    matches!(place, Place::Header(0))
 }
 
 // The header's bytes from the n-th on are 0.
 fn zeros_from(head: [u8; HEADER], n: usize) -> bool
     ensures { result ≡ same_list (drop n head) (replicate (header_size - n) 0) }
 {
-    let mut i = n;
-    while i < HEADER {
-        if head[i] != 0 {
-            return false;
-        }
-        i += 1;
-    }
-    true
+    head.iter().skip(n).all(|b| *b == 0)
 }
 
-// Between two messages no byte is in hand, and most rows are there: the eight bytes as two numbers.
+// Between two messages no byte is in hand, and most rows are there: the eight bytes as one number.
 fn none_in_hand(head: [u8; HEADER]) -> bool
     ensures { result ≡ same_list head (replicate header_size 0) }
 {
-    if octets::read32(&head, 0) != 0 {
-        return false;
-    }
-    octets::read32(&head, 4) == 0
+    u64::from_be_bytes(head) == 0
 }
 
 fn rest_zero(head: [u8; HEADER], n: u8) -> bool
     ensures { result ≡ same_list (drop n head) (replicate (header_size - n) 0) }
 {
     if n == 0 {
-        return none_in_hand(head);
+        none_in_hand(head)
+    } else {
+        zeros_from(head, usize::from(n))
     }
-    zeros_from(head, octets::wide(n))
 }
 
 pub fn tidy(place: Place, head: [u8; HEADER]) -> bool
@@ -136,7 +76,6 @@ pub fn tidy(place: Place, head: [u8; HEADER]) -> bool
 {
     match place {
         Place::Header(n) => rest_zero(head, n),
-        Place::Reading(_) => true,
-        Place::Skipping(_) => true,
+        Place::Reading(_) | Place::Skipping(_) => true,
     }
 }

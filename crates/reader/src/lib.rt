@@ -4,7 +4,6 @@
 #![tactic(auto)]
 
 ghost use Rattle.std.specs.Prelude.{◌≡◌, ◌+◌, ◌*◌, ◌≤◌, ◌<◌, ◌^◌, length};
-ghost use Rattle.octets.specs.Choice.{both};
 ghost use Rattle.octets.specs.Says.{Says};
 ghost use Rattle.sheet.specs.Sheet.{head_size, farm_size, known_size};
 ghost use Rattle.sheet.specs.Rules.{GoodFarms, GoodSection};
@@ -23,49 +22,39 @@ const TESTER_FLAG: u8 = 0;
 
 const TARGET_FLAG: u8 = 1;
 
-pub fn place<'a>(bytes: &'a [u8], at: usize) -> Reader<'a>
-    ensures { (result.bytes ≡ bytes.entry) × (result.at ≡ at) }
-{
-    Reader { bytes, at }
-}
-
-// Past n records of one size: where the next section begins.
-pub fn past<'a>(r: Reader<'a>, n: usize, size: usize) -> Reader<'a>
-    requires { r.at + n * size < 2 ^ 64 }
-    ensures { (result.bytes ≡ r.entry.bytes) × (result.at ≡ r.entry.at + n * size) }
-{
-    Reader {
-        bytes: r.bytes,
-        at: r.at + n * size,
+impl<'a> Reader<'a> {
+    pub fn place(bytes: &'a [u8], at: usize) -> Self
+        ensures { (result.bytes ≡ bytes.entry) × (result.at ≡ at) }
+    {
+        Self { bytes, at }
     }
-}
 
-// The rules of n farms, of which the first stands at the position.
-pub fn farms_here<'a>(r: Reader<'a>, n: usize) -> bool
-    requires { (r.at ≡ head_size) × (r.at + n * farm_size ≤ length r.bytes.now) }
-    ensures { Says result (GoodFarms r.entry.bytes.now n) }
-{
-    sheet_records::farms_ok(r.bytes, r.at, n)
-}
-
-// The rules of n testers or targets, of which the first stands at the position.
-pub fn section_here<'a>(r: Reader<'a>, n: usize, farms: usize, most: u8) -> bool
-    requires { r.at + n * known_size ≤ length r.bytes.now }
-    ensures { Says result (GoodSection r.entry.bytes.now r.entry.at n farms most) }
-{
-    sheet_records::section_ok(r.bytes, r.at, n, farms, most)
-}
-
-fn all_three(a: bool, b: bool, c: bool) -> bool
-    ensures { result ≡ both a (both b c) }
-{
-    if !a {
-        return false;
+    // Past n records of one size: where the next section begins.
+    pub fn past(self, n: usize, size: usize) -> Self
+        requires { self.at + n * size < 2 ^ 64 }
+        ensures { (result.bytes ≡ self.entry.bytes) × (result.at ≡ self.entry.at + n * size) }
+    {
+        Self {
+            at: self.at + n * size,
+            ..self
+        }
     }
-    if !b {
-        return false;
+
+    // The rules of n farms, of which the first stands at the position.
+    pub fn farms_here(self, n: usize) -> bool
+        requires { (self.at ≡ head_size) × (self.at + n * farm_size ≤ length self.bytes.now) }
+        ensures { Says result (GoodFarms self.entry.bytes.now n) }
+    {
+        sheet_records::farms_ok(self.bytes, self.at, n)
     }
-    c
+
+    // The rules of n testers or targets, of which the first stands at the position.
+    pub fn section_here(self, n: usize, farms: usize, most: u8) -> bool
+        requires { self.at + n * known_size ≤ length self.bytes.now }
+        ensures { Says result (GoodSection self.entry.bytes.now self.entry.at n farms most) }
+    {
+        sheet_records::section_ok(self.bytes, self.at, n, farms, most)
+    }
 }
 
 // The walk from the header's end to the last section's, with plain parameters: what every other caller uses.
@@ -73,11 +62,10 @@ pub fn sections_ok(s: &[u8], farms: usize, testers: usize, targets: usize) -> bo
     requires { head_size + farms * farm_size + testers * known_size + targets * known_size ≤ length s.now }
     ensures { Says result (GoodSections s.now farms testers targets) }
 {
-    let at_farms = place(s, HEAD_SIZE);
-    let farms_good = farms_here(at_farms, farms);
-    let at_testers = past(at_farms, farms, FARM_SIZE);
-    let testers_good = section_here(at_testers, testers, farms, TESTER_FLAG);
-    let at_targets = past(at_testers, testers, KNOWN_SIZE);
-    let targets_good = section_here(at_targets, targets, farms, TARGET_FLAG);
-    all_three(farms_good, testers_good, targets_good)
+    let at_farms = Reader::place(s, HEAD_SIZE);
+    let at_testers = at_farms.past(farms, FARM_SIZE);
+    let at_targets = at_testers.past(testers, KNOWN_SIZE);
+    at_farms.farms_here(farms)
+        && at_testers.section_here(testers, farms, TESTER_FLAG)
+        && at_targets.section_here(targets, farms, TARGET_FLAG)
 }

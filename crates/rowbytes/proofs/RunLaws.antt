@@ -16,10 +16,6 @@ pub run_is : {A : Type 0} (l : List A) (d : A) (k n : ℕ) → length l ≡ k + 
 run_is l d k zero e = let z : k ≡ length l = omega arith in sym (ap (λ (x : ℕ). drop x l) z ∙ drop-length l)
 run_is l d k (suc n) e = ap (λ t. get_or l k d ∷ t) (run_is l d (suc k) n (omega arith)) ∙ sym (drop-cons l k d (omega arith))
 
-pub eight : {A : Type 0} (l : List A) (d : A) → length l ≡ 8
-    → get_or l 0 d ∷ get_or l 1 d ∷ get_or l 2 d ∷ get_or l 3 d ∷ get_or l 4 d ∷ get_or l 5 d ∷ get_or l 6 d ∷ get_or l 7 d ∷ [] ≡ l
-eight l d e = run_is l d 0 8 e
-
 -- and the rest behind them
 pub run_on : {A : Type 0} (l : List A) (d : A) (k n : ℕ) → k + n ≤ length l → run l d k n ++ drop (k + n) l ≡ drop k l
 run_on l d k zero h = let z : k + 0 ≡ k = omega arith in ap (λ (x : ℕ). drop x l) z

@@ -2,7 +2,7 @@
 -- Assumes nothing.
 use mathlib.Core.Path.{◌≡◌, refl, sym, ap, ◌∙◌}
 use mathlib.Core.List.{List, [], ◌∷◌, ◌++◌}
-use Prim.Native.Nat.{ℕ, ◌+◌, ◌*◌, ◌/◌, ◌%◌, ◌<◌}
+use Prim.Native.Nat.{ℕ, zero, suc, ◌+◌, ◌*◌, ◌/◌, ◌%◌, ◌<◌}
 use native.Mathlib.Omega.{arith}
 use lib.ListN.{length, get_or, drop, take-append-drop}
 use lib.Seq.{drop-drop}
@@ -81,6 +81,13 @@ header_low low n e =
   where
     last : (a b d f n low : ℕ) → 0 ≡ a → 0 ≡ b → 0 ≡ d → low ≡ f → a * 16777216 + b * 65536 + d * 256 + f ≡ n → n ≡ low
     last a b d f n low ha hb hd hf e = omega arith
+
+-- a run that is read or skipped may have any count
+pub run_ok : (t low n : ℕ) → 0 < t → t < 3 → PlaceOk t low n
+run_ok zero low n h k = absurd (omega arith)
+run_ok (suc zero) low n h k = refl
+run_ok (suc (suc zero)) low n h k = refl
+run_ok (suc (suc (suc t))) low n h k = absurd (omega arith)
 
 pub no_place : (t low n : ℕ) → (t ≡ 1 → ⊥) → (t ≡ 2 → ⊥) → (t ≡ 0 → ⊥) → PlaceOk t low n → ⊥
 no_place t low n h₁ h₂ h₀ e =

@@ -25,21 +25,15 @@ const SPARE: usize = 19;
 fn state_from(tag: u8, kind: u8, address: u16, ticks: u16) -> RowState
     ensures { result ≡ state_from tag kind address ticks }
 {
-    if tag == 1 {
-        return RowState::Fresh(Clock { ticks: ticks });
+    match tag {
+        1 => RowState::Fresh(Clock { ticks }),
+        2 => RowState::Waiting(Request { address, kind }),
+        3 => RowState::Active(address, Clock { ticks }),
+        _ => RowState::Free,
     }
-    if tag == 2 {
-        return RowState::Waiting(Request {
-            address: address,
-            kind: kind,
-        });
-    }
-    if tag == 3 {
-        return RowState::Active(address, Clock { ticks: ticks });
-    }
-    RowState::Free
 }
 
+#[tactic(auto, unfolding(crate::specs::RowBytes::state_in))]
 pub fn read_state(s: &[u8]) -> RowState
     requires { length s.now ≡ row_size }
     ensures { result ≡ state_in s.now }
@@ -52,14 +46,9 @@ pub fn read_state(s: &[u8]) -> RowState
 fn numbered(tag: u8, kind: u8, address: u16, ticks: u16) -> [u8; 6]
     ensures { result ≡ state_bytes tag kind address ticks }
 {
-    [
-        tag,
-        kind,
-        (address / 256) as u8,
-        (address % 256) as u8,
-        (ticks / 256) as u8,
-        (ticks % 256) as u8,
-    ]
+    let [address_high, address_low] = address.to_be_bytes();
+    let [ticks_high, ticks_low] = ticks.to_be_bytes();
+    [tag, kind, address_high, address_low, ticks_high, ticks_low]
 }
 
 pub fn state_bytes(state: RowState) -> [u8; 6]
@@ -78,25 +67,18 @@ pub fn state_bytes(state: RowState) -> [u8; 6]
 fn place_from(tag: u8, low: u8, count: u32) -> Place
     ensures { result ≡ place_from tag low count }
 {
-    if tag == 1 {
-        return Place::Reading(count);
+    match tag {
+        1 => Place::Reading(count),
+        2 => Place::Skipping(count),
+        _ => Place::Header(low),
     }
-    if tag == 2 {
-        return Place::Skipping(count);
-    }
-    Place::Header(low)
 }
 
 fn counted(tag: u8, n: u32) -> [u8; 5]
     ensures { result ≡ tag ∷ be32 n }
 {
-    [
-        tag,
-        (n / 16777216) as u8,
-        (n / 65536 % 256) as u8,
-        (n / 256 % 256) as u8,
-        (n % 256) as u8,
-    ]
+    let [a, b, c, d] = n.to_be_bytes();
+    [tag, a, b, c, d]
 }
 
 pub fn place_bytes(place: Place) -> [u8; 5]
@@ -115,21 +97,21 @@ fn read_head(s: &[u8]) -> [u8; 8]
     requires { length s.now ≡ head_size }
     ensures { result ≡ s.now }
 {
-    [s[0], s[1], s[2], s[3], s[4], s[5], s[6], s[7]]
+    let mut head = [0; 8];
+    head.copy_from_slice(s);
+    head
 }
 
+#[tactic(auto, unfolding(crate::specs::RowBytes::row_from))]
 pub fn read_row(s: &[u8]) -> Row
     requires { length s.now ≡ row_size }
     ensures { result ≡ row_from s.now }
 {
-    let state = read_state(s);
     let count = octets::read32(s, 7);
-    let place = place_from(s[PLACE], s[10], count);
-    let head = read_head(&s[HEAD..SPARE]);
     Row {
-        state: state,
-        place: place,
-        head: head,
+        state: read_state(s),
+        place: place_from(s[PLACE], s[10], count),
+        head: read_head(&s[HEAD..SPARE]),
     }
 }
 
@@ -138,60 +120,36 @@ pub fn read_row(s: &[u8]) -> Row
 fn none(kind: u8, address: u16, ticks: u16) -> bool
     ensures { Says result (Unused kind address ticks) }
 {
-    if kind != 0 {
-        return false;
-    }
-    if address != 0 {
-        return false;
-    }
-    ticks == 0
+    kind == 0 && address == 0 && ticks == 0
 }
 
 fn state_ok(tag: u8, kind: u8, address: u16, ticks: u16) -> bool
     ensures { Says result (StateOk tag kind address ticks) }
 {
-    if tag == 1 {
-        return none(kind, address, 0);
+    match tag {
+        0 => none(kind, address, ticks),
+        1 => none(kind, address, 0),
+        2 => ticks == 0,
+        3 => kind == 0,
+        _ => false,
     }
-    if tag == 2 {
-        return ticks == 0;
-    }
-    if tag == 3 {
-        return kind == 0;
-    }
-    if tag != 0 {
-        return false;
-    }
-    none(kind, address, ticks)
 }
 
 fn place_ok(tag: u8, low: u8, count: u32) -> bool
     ensures { Says result (PlaceOk tag low count) }
 {
-    if tag == 1 {
-        return true;
+    match tag {
+        0 => count == u32::from(low),
+        1 | 2 => true,
+        _ => false,
     }
-    if tag == 2 {
-        return true;
-    }
-    if tag != 0 {
-        return false;
-    }
-    count == low as u32
 }
 
 pub fn row_ok(s: &[u8]) -> bool
     requires { length s.now ≡ row_size }
     ensures { Says result (RowOk s.now) }
 {
-    if s[SPARE] != 0 {
-        return false;
-    }
-    let address = octets::read16(s, 2);
-    let ticks = octets::read16(s, TICKS);
-    if !state_ok(s[0], s[1], address, ticks) {
-        return false;
-    }
-    let count = octets::read32(s, 7);
-    place_ok(s[PLACE], s[10], count)
+    s[SPARE] == 0
+        && state_ok(s[0], s[1], octets::read16(s, 2), octets::read16(s, TICKS))
+        && place_ok(s[PLACE], s[10], octets::read32(s, 7))
 }

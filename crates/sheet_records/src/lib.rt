@@ -19,30 +19,19 @@ pub fn farms_ok(s: &[u8], at: usize, n: usize) -> bool
     requires { (at ≡ head_size) × (at + n * farm_size ≤ length s.now) }
     ensures { Says result (GoodFarms s.now n) }
 {
-    let mut left: u8 = MOST_ROWS;
-    let mut p = at;
-    let mut i: usize = 0;
-    while i < n {
+    let mut left = MOST_ROWS;
+    for i in 0..n {
+        let p = at + i * FARM_SIZE;
         let entity = octets::read16(s, p);
-        if entity < 1 {
-            return false;
-        }
         let q = s[p + 2];
-        if q < 1 {
-            return false;
-        }
-        if MOST_QUOTA < q {
-            return false;
-        }
-        if MOST_MODE < s[p + 3] {
+        let mode = s[p + 3];
+        if entity < 1 || q < 1 || MOST_QUOTA < q || MOST_MODE < mode {
             return false;
         }
         if left < q + 1 {
             return false;
         }
-        left = left - (q + 1);
-        p += FARM_SIZE;
-        i += 1;
+        left -= q + 1;
     }
     true
 }
@@ -52,23 +41,16 @@ pub fn section_ok(s: &[u8], at: usize, n: usize, farms: usize, most: u8) -> bool
     requires { at + n * known_size ≤ length s.now }
     ensures { Says result (GoodSection s.now at n farms most) }
 {
-    let mut last: u16 = 0;
-    let mut p = at;
-    let mut i: usize = 0;
-    while i < n {
-        let a = octets::read16(s, p);
-        if a <= last {
+    let mut last = 0;
+    for i in 0..n {
+        let p = at + i * KNOWN_SIZE;
+        let address = octets::read16(s, p);
+        let farm = usize::from(s[p + 2]);
+        let flag = s[p + 3];
+        if address <= last || farms <= farm || most < flag {
             return false;
         }
-        if farms <= octets::wide(s[p + 2]) {
-            return false;
-        }
-        if most < s[p + 3] {
-            return false;
-        }
-        last = a;
-        p += KNOWN_SIZE;
-        i += 1;
+        last = address;
     }
     true
 }

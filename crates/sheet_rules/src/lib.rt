@@ -20,55 +20,30 @@ fn head_ok(s: &[u8]) -> bool
     requires { head_size ≤ length s.now }
     ensures { Says result (GoodHead s.now) }
 {
-    let farms = octets::read16(s, 0) as usize;
-    if farms < 1 {
-        return false;
-    }
-    if MOST_FARMS < farms {
-        return false;
-    }
-    let testers = octets::read16(s, 2) as usize;
-    if MOST_TESTERS < testers {
-        return false;
-    }
-    let targets = octets::read16(s, 4) as usize;
-    if MOST_TARGETS < targets {
-        return false;
-    }
-    let first = octets::read16(s, 6) as usize;
-    if first != HEAD_SIZE {
-        return false;
-    }
+    let farms = usize::from(octets::read16(s, 0));
+    let testers = usize::from(octets::read16(s, 2));
+    let targets = usize::from(octets::read16(s, 4));
     let a = HEAD_SIZE + farms * FARM_SIZE;
-    let second = octets::read16(s, 8) as usize;
-    if second != a {
-        return false;
-    }
     let b = a + testers * KNOWN_SIZE;
-    let third = octets::read16(s, 10) as usize;
-    if third != b {
-        return false;
-    }
     let end = b + targets * KNOWN_SIZE;
-    if s.len() != end {
-        return false;
-    }
-    true
+    (1..=MOST_FARMS).contains(&farms)
+        && testers <= MOST_TESTERS
+        && targets <= MOST_TARGETS
+        && usize::from(octets::read16(s, 6)) == HEAD_SIZE
+        && usize::from(octets::read16(s, 8)) == a
+        && usize::from(octets::read16(s, 10)) == b
+        && s.len() == end
 }
 
 pub fn sheet_ok(s: &[u8]) -> bool
     ensures { Says result (GoodSheet s.now) }
 {
-    if s.len() < HEAD_SIZE {
-        return false;
-    }
-    if !head_ok(s) {
-        return false;
-    }
-    reader::sections_ok(
-        s,
-        head::farm_count(s),
-        head::tester_count(s),
-        head::target_count(s),
-    )
+    HEAD_SIZE <= s.len()
+        && head_ok(s)
+        && reader::sections_ok(
+            s,
+            head::farm_count(s),
+            head::tester_count(s),
+            head::target_count(s),
+        )
 }

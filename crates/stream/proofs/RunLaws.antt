@@ -200,16 +200,6 @@ takes_few s (b ∷ bs) = by (feed s b) (λ t. takes_few t bs)
 
 -- ---- the contract
 
-pub takes_all : {r : Took} {room : List ℕ} {t : Taken} → taken_of r room ≡ t → Takes r room t
-takes_all e =
-    record {
-      count = ap (λ (t : Taken). t.count) e;
-      event = ap (λ (t : Taken). t.event) e;
-      place = ap (λ (t : Taken). t.stream.place) e;
-      head = ap (λ (t : Taken). t.stream.head) e;
-      room = ap (λ (t : Taken). t.stream.room) e;
-    }
-
 -- the five parts are all of it
 pub takes_one : {r : Took} {room : List ℕ} {t : Taken} → Takes r room t → taken_of r room ≡ t
 takes_one k = rw (k.count, k.event, k.place, k.head, k.room)

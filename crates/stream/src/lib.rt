@@ -23,13 +23,8 @@ pub struct Took {
     pub head: [u8; 8],
 }
 
-fn smaller(a: usize, b: usize) -> usize
-    ensures { result ≡ min a b }
-{
-    if a < b { a } else { b }
-}
-
 // Between two messages again.
+#[tactic(auto, unfolding(model::specs::Row::no_head))]
 fn rested(count: usize, event: Event) -> Took
     ensures { result ≡ between count event }
 {
@@ -46,14 +41,9 @@ fn later(count: usize, t: Took) -> Took
     requires { count + t.count < 2 ^ 64 }
     ensures { result ≡ later_by count t }
 {
-    let event = t.event;
-    let place = t.place;
-    let head = t.head;
     Took {
         count: count + t.count,
-        event,
-        place,
-        head,
+        ..t
     }
 }
 
@@ -61,13 +51,7 @@ fn later(count: usize, t: Took) -> Took
 pub fn is_stored(kind: u16) -> bool
     ensures { result ≡ is_stored kind }
 {
-    if kind == 0x0005 {
-        return true;
-    }
-    if kind == 0x0008 {
-        return true;
-    }
-    kind == 0x8001
+    matches!(kind, 0x0005 | 0x0008 | 0x8001)
 }
 
 // "stored at its place in its row's 2,048; nothing else there ever changes"
@@ -87,7 +71,7 @@ fn take_reading(n: u32, head: [u8; 8], room: &mut [u8], input: &[u8]) -> Took
 {
     let h = wire::header::read(&head, 0);
     let left = (h.length - n) as usize;
-    let k = smaller(left, input.len());
+    let k = left.min(input.len());
     store(h.kind, room, n as usize, &input[..k]);
     if left <= k {
         return rested(k, Event::Finished(h.kind, h.length));
@@ -100,14 +84,15 @@ fn take_reading(n: u32, head: [u8; 8], room: &mut [u8], input: &[u8]) -> Took
     }
 }
 
-// A payload that is skipped, likewise. The room is not lent: what is skipped is not stored.
+// A payload that is skipped, likewise. The room is not lent: what is skipped is not stored. So the two are no one function: of a call
+// without a room the contract says more, that whatever the room holds stays.
 fn take_skipping(n: u32, head: [u8; 8], input: &[u8]) -> Took
     requires { PossibleAt (Skipping n) head }
     ensures { (room : List ℕ) → taken_of result room ≡ takes (stream_of (Skipping n) head room) input.now }
 {
     let h = wire::header::read(&head, 0);
     let left = (h.length - n) as usize;
-    let k = smaller(left, input.len());
+    let k = left.min(input.len());
     if left <= k {
         return rested(k, Event::Skipped(h.length));
     }
@@ -123,19 +108,15 @@ fn take_skipping(n: u32, head: [u8; 8], input: &[u8]) -> Took
 fn after_wrong(count: usize, f: Fault, head: [u8; 8]) -> Took
     ensures { (room : List ℕ) → taken_of result room ≡ taken count (wrong f) (after_wrong f head room) }
 {
-    if wire::header::closes_row(f) {
-        return rested(count, Event::Wrong(f));
+    let over = rested(count, Event::Wrong(f));
+    if wire::header::closes_row(f) || wire::header::read(&head, 0).length == 0 {
+        return over;
     }
-    let h = wire::header::read(&head, 0);
-    if 0 < h.length {
-        return Took {
-            count,
-            event: Event::Wrong(f),
-            place: Place::Skipping(0),
-            head,
-        };
+    Took {
+        place: Place::Skipping(0),
+        head,
+        ..over
     }
-    rested(count, Event::Wrong(f))
 }
 
 // "Judged when all eight are in": k bytes of the input went into them. A header that passes goes on with its payload in the same call; any
@@ -157,7 +138,7 @@ fn take_header(n: u8, head: [u8; 8], room: &mut [u8], input: &[u8]) -> Took
 {
     let at = n as usize;
     let left = HEADER_SIZE - at;
-    let k = smaller(left, input.len());
+    let k = left.min(input.len());
     let mut filled = head;
     octets::put(&mut filled, at, &input[..k]);
     if left <= k {

@@ -54,7 +54,7 @@ pub fn judge(h: Header) -> Result<(), Fault>
     Ok(())
 }
 
-// The NACK's code.
+// The NACK's code. No `From<Fault>`: it would stand beside the type in kinds, where nothing knows how a type stands in bytes.
 pub fn code_of(f: Fault) -> u8
     ensures { result ≡ code_of f }
 {

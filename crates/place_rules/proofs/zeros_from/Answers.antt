@@ -1,26 +1,23 @@
--- `zeros_from` meets its contract.
+-- `zeros_from` meets its contract: each byte that is looked at is 0.
 -- Assumes nothing.
 use borrow.Author.Rules.{rules}
-use mathlib.Core.Path.{◌≡◌, sym}
+use borrow.Author.Tests.{tests}
+use mathlib.Core.Path.{◌≡◌}
+use mathlib.Core.List.{List}
+use Prim.Native.Nat.{ℕ}
 use lib.ListN.{length}
+use Rattle.std.proofs.lemmas.Iterator.{YieldsList-from_slice, cases_from_all}
+use Rattle.std.proofs.lemmas.Iterator.Adapters.{YieldsList-from_skip}
 use Rattle.wire.specs.Header.{header_size}
-use Rattle.place_rules.proofs.PlaceLaws.{zeros_start, zeros_next, zeros_differ, zeros_end}
+use Rattle.place_rules.proofs.PlaceLaws.{rest_zeros}
 use Rattle.place_rules.proofs.zeros_from.Goals as goal
-
-pub loop-i-init : goal.loop-i-init
-loop-i-init c = zeros_start c.args.head c.args.n
-
-pub returns-then-head-i-ne0 : goal.returns-then-head-i-ne0
-returns-then-head-i-ne0 c =
-    let eight : length c.args.head ≡ header_size = search rules in
-    let l = c.loop-i in sym (zeros_differ c.args.head eight c.args.n l.i c.loop-i-test.true c.if-head-i-ne0.true l.invariant)
-
-pub loop-i-preserved : goal.loop-i-preserved
-loop-i-preserved c =
-    let eight : length c.args.head ≡ header_size = search rules in
-    let l = c.loop-i in zeros_next c.args.head eight c.args.n l.i c.loop-i-test.true c.if-head-i-ne0.false l.invariant
 
 pub returns : goal.returns
 returns c =
-    let eight : length c.args.head ≡ header_size = search rules in
-    let l = c.loop-i in sym (zeros_end c.args.head eight c.args.n l.i c.loop-i-test.false l.invariant)
+    let head : List ℕ = c.args.head in
+    let eight : length head ≡ header_size = search rules in
+    rest_zeros head eight c.args.n c.all.result
+    (cases_from_all _ _ _ (λ x. x ≡ 0) (λ x. x ≡ 0 → ⊥) c.all.ensures.ran
+    (YieldsList-from_skip c.args.n (YieldsList-from_slice head cc) cc)
+    (λ x q k. search (rules, tests))
+    (λ x q k. search (rules, tests)))

@@ -12,4 +12,4 @@ returns c =
     let l = c.loop-i in
     let e : l.i ≡ a.n = omega arith in
     says-yes
-    (section_good a.s.now a.at a.farms a.most a.n (subst (PassedTo a.s.now a.at a.farms a.most) e l.invariant.3))
+    (section_good a.s.now a.at a.farms a.most a.n (subst (PassedTo a.s.now a.at a.farms a.most) e l.invariant.1))

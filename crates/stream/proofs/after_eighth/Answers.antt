@@ -1,6 +1,6 @@
 -- `after_eighth` meets its contract: a header that passes goes on with its payload, a wrong one ends the call.
 -- Assumes nothing.
-use Rattle.std.proofs.Common.{Result, Ok}
+use Rattle.std.proofs.Common.{Result}
 use Rattle.kinds.specs.declared.Fault.{Fault}
 use Prim.Native.Nat.{ℕ, ◌-◌}
 use mathlib.Core.Path.{◌≡◌, sym, ap, ◌∙◌}

@@ -14,17 +14,17 @@ use borrow.Author.Rules.{rules}
 use Rattle.stream.proofs.take_header.Goals as goal
 
 pub slice_bounds-put-end-2 : goal.slice_bounds-put-end-2
-slice_bounds-put-end-2 c = omega (arith, c.smaller-k.ensures, length-take c.smaller-k.result c.args.input.now)
+slice_bounds-put-end-2 c = omega (arith, c.min-k.ensures, length-take c.min-k.result c.args.input.now)
 
 pub put-requires : goal.put-requires
 put-requires c =
-    let m = c.smaller-k in
+    let m = c.min-k in
     omega (arith, m.ensures, length-take m.result c.args.input.now, let e : length c.args.head ≡ header_size = search rules in e, c.requires.1)
 
 pub returns-then-left-k : goal.returns-then-left-k
 returns-then-left-k c =
     let a = c.args in
-    let m = c.smaller-k in
+    let m = c.min-k in
     let rest : List ℕ = drop m.result a.input.now in
     c.after_eighth.ensures
     ∙ ap (λ (x : List ℕ). takes_after m.result (judged (verdict_of (header_at x 0)) x a.room.now) (λ t. takes t rest)) c.put.ensures
@@ -34,6 +34,6 @@ returns-then-left-k c =
 pub returns : goal.returns
 returns c =
     let a = c.args in
-    let m = c.smaller-k in
+    let m = c.min-k in
     ap (λ (x : List ℕ). taken m.result input_ended (stream_of (Header (a.n + m.result)) x a.room.now)) c.put.ensures
     ∙ sym (header_short a.head a.room.now (search rules) a.n m.result a.input.now m.ensures c.if-left-k.false)

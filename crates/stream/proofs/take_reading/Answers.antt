@@ -30,17 +30,17 @@ pub overflow_sub-left : goal.overflow_sub-left
 overflow_sub-left c = omega (arith, unfinished c.args.n c.args.head c.read-h.result c.read-h.ensures c.requires.1)
 
 pub slice_bounds-store-end : goal.slice_bounds-store-end
-slice_bounds-store-end c = omega (arith, c.smaller-k.ensures, length-take c.smaller-k.result c.args.input.now)
+slice_bounds-store-end c = omega (arith, c.min-k.ensures, length-take c.min-k.result c.args.input.now)
 
 pub store-requires : goal.store-requires
 store-requires c =
-    let m = c.smaller-k in
+    let m = c.min-k in
     omega (arith, m.ensures, length-take m.result c.args.input.now, unfinished c.args.n c.args.head c.read-h.result c.read-h.ensures c.requires.1, has_room c.args.n c.args.head c.args.room.now c.read-h.result c.read-h.ensures c.requires.0 c.requires.1)
 
 pub returns-then-left-k : goal.returns-then-left-k
 returns-then-left-k c =
     let a = c.args in
-    let m = c.smaller-k in
+    let m = c.min-k in
     let w = c.store in
     let e = finished c.read-h.result.kind c.read-h.result.length in
     ap (λ (t : Took). taken_of t w.new.room) c.rested.ensures
@@ -52,7 +52,7 @@ returns-then-left-k c =
 pub returns : goal.returns
 returns c =
     let a = c.args in
-    let m = c.smaller-k in
+    let m = c.min-k in
     ap (λ (x : List ℕ). taken m.result input_ended (stream_of (Reading (a.n + m.result)) a.head x)) c.store.ensures
     ∙ sym
     (reading_short a.head a.room.now c.read-h.result c.read-h.ensures a.n m.result a.input.now m.ensures (λ _. has_room c.args.n c.args.head c.args.room.now c.read-h.result c.read-h.ensures c.requires.0 c.requires.1)

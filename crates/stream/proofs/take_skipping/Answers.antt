@@ -22,7 +22,7 @@ overflow_sub-left c = omega (arith, unfinished c.args.n c.args.head c.read-h.res
 pub returns-then-left-k : goal.returns-then-left-k
 returns-then-left-k c =
     let a = c.args in
-    let m = c.smaller-k in
+    let m = c.min-k in
     λ room.
     ap (λ (t : Took). taken_of t room) c.rested.ensures
     ∙ sym
@@ -33,5 +33,5 @@ pub returns : goal.returns
 returns c =
     let a = c.args in
     let r = c.read-h in
-    let m = c.smaller-k in
+    let m = c.min-k in
     λ room. sym (skipping_short a.head room r.result r.ensures a.n m.result a.input.now m.ensures c.if-left-k.false)
