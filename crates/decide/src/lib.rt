@@ -4,7 +4,7 @@
 ghost use Rattle.std.specs.Prelude.{◌≡◌, ◌<◌, length};
 ghost use Rattle.octets.specs.Search.{first_at, count_if};
 ghost use Rattle.kinds.specs.declared.Decision.TheVariants.{Ask};
-ghost use Rattle.model.specs.Row.{row_at, is_active, is_active_state, active_as, active_as_state, wanted, wanted_by};
+ghost use Rattle.model.specs.Row.{row_at, is_active, active_as, wanted};
 ghost use Rattle.model.specs.RuleTest.{is_pending};
 ghost use Rattle.model.specs.Line.{by_places, socket_rules, asks, is_silent, all_answered, refusal_of, verdict_by, head_verdict};
 ghost use Rattle.table.specs.Layout.{seats, block_size};
@@ -17,55 +17,20 @@ use table::SEATS;
 // "All codes but 10 close the row."
 pub const ACCEPTED: u8 = 0x10;
 
-// ---- what a row's state says
-
-fn active(s: RowState) -> bool
-    ensures { result ≡ is_active_state s }
-{
-    match s {
-        RowState::Free => false,
-        RowState::Fresh(_) => false,
-        RowState::Waiting(_) => false,
-        RowState::Active(_, _) => true,
-    }
-}
-
-fn state_active_as(s: RowState, address: u16) -> bool
-    ensures { result ≡ active_as_state address s }
-{
-    match s {
-        RowState::Free => false,
-        RowState::Fresh(_) => false,
-        RowState::Waiting(_) => false,
-        RowState::Active(a, _) => a == address,
-    }
-}
-
-fn wanted_by(s: RowState) -> u16
-    ensures { result ≡ wanted_by s }
-{
-    match s {
-        RowState::Free => 0,
-        RowState::Fresh(_) => 0,
-        RowState::Waiting(q) => q.address,
-        RowState::Active(_, _) => 0,
-    }
-}
-
 // ---- what is asked of one row
 
 pub fn is_active(b: &[u8], seat: usize) -> bool
     requires { length b.now ≡ block_size }
     ensures { result ≡ is_active (row_at (farm_of b.now).rows seat) }
 {
-    active(table::row::state_at(b, seat))
+    matches!(table::row::state_at(b, seat), RowState::Active(_, _))
 }
 
 pub fn active_as(b: &[u8], seat: usize, address: u16) -> bool
     requires { length b.now ≡ block_size }
     ensures { result ≡ active_as address (row_at (farm_of b.now).rows seat) }
 {
-    state_active_as(table::row::state_at(b, seat), address)
+    matches!(table::row::state_at(b, seat), RowState::Active(a, _) if a == address)
 }
 
 // The address that a waiting row asks for.
@@ -73,7 +38,10 @@ pub fn wanted(b: &[u8], seat: usize) -> u16
     requires { length b.now ≡ block_size }
     ensures { result ≡ wanted (row_at (farm_of b.now).rows seat) }
 {
-    wanted_by(table::row::state_at(b, seat))
+    match table::row::state_at(b, seat) {
+        RowState::Waiting(q) => q.address,
+        _ => 0,
+    }
 }
 
 // ---- the socket's rules
@@ -83,12 +51,7 @@ pub fn holder(b: &[u8], address: u16) -> Option<usize>
     requires { length b.now ≡ block_size }
     ensures { result ≡ first_at (active_as address) 0 (farm_of b.now).rows }
 {
-    for i in 0..SEATS {
-        if active_as(b, i, address) {
-            return Some(i);
-        }
-    }
-    None
+    (0..SEATS).find(|seat| active_as(b, *seat, address))
 }
 
 // How many rows are active.
@@ -96,13 +59,7 @@ pub fn count_active(b: &[u8]) -> usize
     requires { length b.now ≡ block_size }
     ensures { result ≡ count_if is_active (farm_of b.now).rows }
 {
-    let mut n: usize = 0;
-    for i in 0..SEATS {
-        if is_active(b, i) {
-            n += 1;
-        }
-    }
-    n
+    (0..SEATS).filter(|seat| is_active(b, *seat)).count()
 }
 
 // "q rows active: a check of all active rows of the farm. - else 10"
@@ -154,10 +111,7 @@ pub fn is_silent(b: &[u8], check: Check, m: [bool; SEATS], seat: usize) -> bool
     requires { (seat < seats) × (length b.now ≡ block_size) }
     ensures { result ≡ is_silent check m seat (row_at (farm_of b.now).rows seat) }
 {
-    if m[seat] {
-        return false;
-    }
-    asks(b, check, seat)
+    !m[seat] && asks(b, check, seat)
 }
 
 // "all asked rows answered"
@@ -165,12 +119,7 @@ pub fn all_answered(b: &[u8], check: Check, m: [bool; SEATS]) -> bool
     requires { length b.now ≡ block_size }
     ensures { result ≡ all_answered check m (farm_of b.now).rows }
 {
-    for i in 0..SEATS {
-        if is_silent(b, check, m, i) {
-            return false;
-        }
-    }
-    true
+    !(0..SEATS).any(|seat| is_silent(b, check, m, seat))
 }
 
 // "03 (check of that row) or 01 (check of all)"
@@ -204,8 +153,7 @@ pub fn head_verdict(b: &[u8], site: Site, head: usize) -> HeadVerdict
     requires { length b.now ≡ block_size }
     ensures { result ≡ head_verdict (site_sheet site) (farm_of b.now) head }
 {
-    let d = rules_for(b, site, head);
-    match d {
+    match rules_for(b, site, head) {
         Decision::Now(code) => HeadVerdict::Answer(code),
         Decision::Ask(check) => check_verdict(b, check),
     }
@@ -215,9 +163,5 @@ pub fn head_verdict(b: &[u8], site: Site, head: usize) -> HeadVerdict
 pub fn is_pending(v: HeadVerdict) -> bool
     ensures { result ≡ is_pending v }
 {
-    match v {
-        HeadVerdict::Pending => true,
-        HeadVerdict::Answer(_) => false,
-        HeadVerdict::RunOut(_) => false,
-    }
+    matches!(v, HeadVerdict::Pending)
 }

@@ -40,8 +40,7 @@ fn code_for(s: &[u8], f: FarmNo, target: u16) -> u8
     let Some(k) = find::find_target(s, target) else {
         return NO_TARGET;
     };
-    let owner = k.farm;
-    if owner.0 != f.0 {
+    if k.farm != f {
         return NO_TARGET;
     }
     if k.flag == REACHABLE {

@@ -15,12 +15,7 @@ fn free_row(b: &[u8], rows: usize) -> Option<usize>
     requires { (rows ≤ seats) × (length b.now ≡ block_size) }
     ensures { result ≡ first_at is_free 0 (take rows (farm_of b.now).rows) }
 {
-    for i in 0..rows {
-        if farm_ask::is_free(b, i) {
-            return Some(i);
-        }
-    }
-    None
+    (0..rows).find(|seat| farm_ask::is_free(b, *seat))
 }
 
 // "A fresh row's age counts from connect"
@@ -28,8 +23,7 @@ fn open_row(b: &mut [u8], seat: usize)
     requires { (seat < seats) × Whole b.old }
     ensures { Holds b.new (with_row (farm_of b.old) seat fresh_row) }
 {
-    let c = Clock::fresh();
-    table::row::put_row(b, seat, say::row_of(RowState::Fresh(c)));
+    table::row::put_row(b, seat, say::row_of(RowState::Fresh(Clock::fresh())));
 }
 
 // Refusal 8 is where this finds nothing.

@@ -2,7 +2,7 @@
 #![tactic(auto)]
 
 ghost use Rattle.std.specs.Prelude.{◌≡◌, length};
-ghost use Rattle.model.specs.Row.{row_at, is_free, is_free_state, is_open, is_waiting, is_waiting_state};
+ghost use Rattle.model.specs.Row.{row_at, is_free, is_open, is_waiting};
 ghost use Rattle.model.specs.Move.{open_rows};
 ghost use Rattle.table.specs.Layout.{block_size};
 ghost use Rattle.table.specs.Block.{farm_of};
@@ -11,33 +11,11 @@ use closing::close;
 use kinds::RowState;
 use table::SEATS;
 
-fn state_free(s: RowState) -> bool
-    ensures { result ≡ is_free_state s }
-{
-    match s {
-        RowState::Free => true,
-        RowState::Fresh(_) => false,
-        RowState::Waiting(_) => false,
-        RowState::Active(_, _) => false,
-    }
-}
-
-fn state_waiting(s: RowState) -> bool
-    ensures { result ≡ is_waiting_state s }
-{
-    match s {
-        RowState::Free => false,
-        RowState::Fresh(_) => false,
-        RowState::Waiting(_) => true,
-        RowState::Active(_, _) => false,
-    }
-}
-
 pub fn is_free(b: &[u8], seat: usize) -> bool
     requires { length b.now ≡ block_size }
     ensures { result ≡ is_free (row_at (farm_of b.now).rows seat) }
 {
-    state_free(table::row::state_at(b, seat))
+    matches!(table::row::state_at(b, seat), RowState::Free)
 }
 
 // Refusal 6 is where this says no.
@@ -53,7 +31,7 @@ pub fn is_waiting(b: &[u8], seat: usize) -> bool
     requires { length b.now ≡ block_size }
     ensures { result ≡ is_waiting (row_at (farm_of b.now).rows seat) }
 {
-    state_waiting(table::row::state_at(b, seat))
+    matches!(table::row::state_at(b, seat), RowState::Waiting(_))
 }
 
 // "open rows of the farm"
@@ -61,11 +39,5 @@ pub fn open_rows(b: &[u8]) -> usize
     requires { length b.now ≡ block_size }
     ensures { result ≡ open_rows (farm_of b.now) }
 {
-    let mut n: usize = 0;
-    for i in 0..SEATS {
-        if is_open(b, i) {
-            n += 1;
-        }
-    }
-    n
+    (0..SEATS).filter(|seat| is_open(b, *seat)).count()
 }

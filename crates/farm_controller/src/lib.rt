@@ -21,10 +21,7 @@ const MOST_USER: usize = 2044;
 fn size_fits(n: usize) -> bool
     ensures { result ≡ size_fits n }
 {
-    if 0 < n {
-        return n <= MOST_USER;
-    }
-    false
+    0 < n && n <= MOST_USER
 }
 
 // "controller address not a target of that farm": one that is not reachable is a target too.
@@ -32,10 +29,7 @@ fn is_target(s: &[u8], f: FarmNo, from: u16) -> bool
     requires { GoodSheet s.now }
     ensures { result ≡ is_target ((farm_sheet s.now f.0).target from) }
 {
-    let Some(target) = find::find_target(s, from) else {
-        return false;
-    };
-    target.farm.0 == f.0
+    find::find_target(s, from).is_some_and(|target| target.farm == f)
 }
 
 // The refusal's number, or 0 where it is done.

@@ -32,10 +32,8 @@ pub fn heard_state(count: usize, state: RowState) -> RowState
     ensures { result ≡ heard_state count state }
 {
     match state {
-        RowState::Free => RowState::Free,
-        RowState::Fresh(age) => RowState::Fresh(age),
-        RowState::Waiting(q) => RowState::Waiting(q),
         RowState::Active(a, idle) => RowState::Active(a, idle_after(count, idle)),
+        RowState::Free | RowState::Fresh(_) | RowState::Waiting(_) => state,
     }
 }
 
@@ -54,8 +52,7 @@ fn over(m: Meters, place: Place) -> Meters
 {
     match place {
         Place::Header(_) => table_meters::ended(m, HEAD, 0),
-        Place::Reading(_) => table_meters::ended(m, 0, 0),
-        Place::Skipping(_) => table_meters::ended(m, 0, 0),
+        Place::Reading(_) | Place::Skipping(_) => m,
     }
 }
 
@@ -64,10 +61,9 @@ pub fn ended(m: Meters, event: Event, place: Place) -> Meters
     ensures { result ≡ finished_more (ended_by (event_of event) (stream_of place no_head [])) m }
 {
     match event {
-        Event::InputEnded => table_meters::ended(m, 0, 0),
+        Event::InputEnded => m,
         Event::Wrong(_) => over(m, place),
-        Event::Finished(_, size) => table_meters::ended(m, HEAD, size),
-        Event::Skipped(size) => table_meters::ended(m, HEAD, size),
+        Event::Finished(_, size) | Event::Skipped(size) => table_meters::ended(m, HEAD, size),
     }
 }
 

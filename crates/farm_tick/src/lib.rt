@@ -33,17 +33,10 @@ fn age_row(b: &mut [u8], i: usize)
     requires { (i < seats) × Whole b.old }
     ensures { Holds b.new (with_row (farm_of b.old) i (older (row_at (farm_of b.old).rows i))) }
 {
-    let s = table::row::state_at(b, i);
-    match s {
-        RowState::Free => {}
-        RowState::Fresh(age) => {
-            let c = age.stepped();
-            table::row::put_ticks(b, i, c.ticks);
-        }
-        RowState::Waiting(_) => {}
-        RowState::Active(_, idle) => {
-            let c = idle.stepped();
-            table::row::put_ticks(b, i, c.ticks);
+    match table::row::state_at(b, i) {
+        RowState::Free | RowState::Waiting(_) => {}
+        RowState::Fresh(clock) | RowState::Active(_, clock) => {
+            table::row::put_ticks(b, i, clock.stepped().ticks);
         }
     }
 }

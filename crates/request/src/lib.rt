@@ -40,12 +40,9 @@ fn by_state(b: &[u8], site: Site, seat: usize, address: u16) -> Decision
     requires { length b.now ≡ block_size }
     ensures { result ≡ by_state (site_sheet site) (farm_of b.now).rows address (row_at (farm_of b.now).rows seat).state }
 {
-    let state = table::row::state_at(b, seat);
-    match state {
-        RowState::Free => decide::socket_rules(b, site, address),
-        RowState::Fresh(_) => decide::socket_rules(b, site, address),
-        RowState::Waiting(_) => decide::socket_rules(b, site, address),
+    match table::row::state_at(b, seat) {
         RowState::Active(a, _) => Decision::Now(again(a, address)),
+        RowState::Free | RowState::Fresh(_) | RowState::Waiting(_) => decide::socket_rules(b, site, address),
     }
 }
 
@@ -57,8 +54,7 @@ fn decision(b: &[u8], s: &[u8], f: FarmNo, site: Site, seat: usize, q: Request) 
     let Some(k) = find::find_tester(s, q.address) else {
         return Decision::Now(NO_TESTER); // nobody's
     };
-    let owner = k.farm;
-    let ours = owner.0 == f.0;
+    let ours = k.farm == f;
     let right_type = q.kind <= 1;
     if !ours {
         return Decision::Now(NO_TESTER); // another farm's

@@ -23,10 +23,7 @@ fn free_keeps(b: &[u8], i: usize, place: Place) -> bool
     requires { length b.now ≡ block_size }
     ensures { result ≡ free_keeps (farm_of b.now) i place }
 {
-    if !place_rules::is_boundary(place) {
-        return false;
-    }
-    row_tests::times_in(b, i) == 0
+    place_rules::is_boundary(place) && row_tests::times_in(b, i) == 0
 }
 
 // "an age is 200 or more"
@@ -35,13 +32,7 @@ fn fresh_keeps(b: &[u8], rows: usize, i: usize, age: Clock) -> bool
     requires { length b.now ≡ block_size }
     ensures { result ≡ fresh_keeps rows (farm_of b.now) i age }
 {
-    if !is_owned(rows, i) {
-        return false;
-    }
-    if Clock::INITIAL <= age.ticks {
-        return false;
-    }
-    row_tests::times_in(b, i) == 0
+    is_owned(rows, i) && age.ticks < Clock::INITIAL && row_tests::times_in(b, i) == 0
 }
 
 // "a waiting row has bytes in hand, or its request would get 00 or 06"
@@ -57,19 +48,11 @@ fn waiting_keeps(
     requires { (length b.now ≡ block_size) × GoodSheet s.now }
     ensures { result ≡ waiting_keeps (tester_in s.now f.0) rows (farm_of b.now) i place q }
 {
-    if !is_owned(rows, i) {
-        return false;
-    }
-    if !place_rules::is_boundary(place) {
-        return false;
-    }
-    if 1 < q.kind {
-        return false;
-    }
-    if row_tests::times_in(b, i) != 1 {
-        return false;
-    }
-    row_tests::is_tester(s, f, q.address)
+    is_owned(rows, i)
+        && place_rules::is_boundary(place)
+        && q.kind <= 1
+        && row_tests::times_in(b, i) == 1
+        && row_tests::is_tester(s, f, q.address)
 }
 
 // "an active address isn't that farm's tester or is active twice", "an idle count 30,000 or more"
@@ -86,19 +69,11 @@ fn active_keeps(
     requires { (i < seats) × (length b.now ≡ block_size) × GoodSheet s.now }
     ensures { result ≡ active_keeps (tester_in s.now f.0) rows (farm_of b.now) i address idle }
 {
-    if !is_owned(rows, i) {
-        return false;
-    }
-    if Clock::GENERAL <= idle.ticks {
-        return false;
-    }
-    if row_tests::times_in(b, i) != 0 {
-        return false;
-    }
-    if !row_tests::is_tester(s, f, address) {
-        return false;
-    }
-    !row_tests::again_after(b, i, address)
+    is_owned(rows, i)
+        && idle.ticks < Clock::GENERAL
+        && row_tests::times_in(b, i) == 0
+        && row_tests::is_tester(s, f, address)
+        && !row_tests::again_after(b, i, address)
 }
 
 fn state_keeps(
@@ -128,17 +103,8 @@ pub fn seat_keeps(b: &[u8], s: &[u8], f: FarmNo, site: Site, rows: usize, i: usi
     ensures { result ≡ seat_test (rule_sheet s.now f.0 site rows) (farm_of b.now) i }
 {
     let row = table::row::row_at(b, i);
-    let place = row.place;
-    let head = row.head;
-    let state = row.state;
-    if !place_rules::possible(place, head) {
-        return false;
-    }
-    if !place_rules::tidy(place, head) {
-        return false;
-    }
-    if !row_tests::mark_keeps(b, site, i) {
-        return false;
-    }
-    state_keeps(b, s, f, rows, i, place, state)
+    place_rules::possible(row.place, row.head)
+        && place_rules::tidy(row.place, row.head)
+        && row_tests::mark_keeps(b, site, i)
+        && state_keeps(b, s, f, rows, i, row.place, row.state)
 }

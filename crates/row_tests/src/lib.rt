@@ -22,10 +22,7 @@ pub fn is_tester(s: &[u8], f: FarmNo, address: u16) -> bool
     requires { GoodSheet s.now }
     ensures { result ≡ tester_in s.now f.0 address }
 {
-    let Some(k) = find::find_tester(s, address) else {
-        return false;
-    };
-    k.farm.0 == f.0
+    find::find_tester(s, address).is_some_and(|k| k.farm == f)
 }
 
 // How often a seat stands in the line.
@@ -33,14 +30,9 @@ pub fn times_in(b: &[u8], i: usize) -> usize
     requires { length b.now ≡ block_size }
     ensures { result ≡ times i (farm_of b.now).line }
 {
-    let n = table_line::waiting(b);
-    let mut sum: usize = 0;
-    for k in 0..n {
-        if i == table_line::seat_at(b, k) {
-            sum += 1;
-        }
-    }
-    sum
+    (0..table_line::waiting(b))
+        .filter(|k| table_line::seat_at(b, *k) == i)
+        .count()
 }
 
 // "or is active twice": on a row after this one
@@ -48,14 +40,7 @@ pub fn again_after(b: &[u8], i: usize, address: u16) -> bool
     requires { (i < seats) × (length b.now ≡ block_size) }
     ensures { result ≡ some (active_as address) (drop (i + 1) (farm_of b.now).rows) }
 {
-    let mut k = i + 1;
-    while k < SEATS {
-        if decide::active_as(b, k, address) {
-            return true;
-        }
-        k += 1;
-    }
-    false
+    (i + 1..SEATS).any(|k| decide::active_as(b, k, address))
 }
 
 // "a mark stands on a row not asked": looked at only where one stands
@@ -63,8 +48,5 @@ pub fn mark_keeps(b: &[u8], site: Site, i: usize) -> bool
     requires { (i < seats) × (length b.now ≡ block_size) }
     ensures { result ≡ either (not (is_marked (farm_of b.now).marks i)) (is_asked (site_sheet site) (farm_of b.now) i) }
 {
-    if !table::marks::mark_at(b, i) {
-        return true;
-    }
-    line_join::is_asked(b, site, i)
+    !table::marks::mark_at(b, i) || line_join::is_asked(b, site, i)
 }

@@ -18,12 +18,7 @@ fn seats_keep(b: &[u8], s: &[u8], f: FarmNo, site: Site, rows: usize) -> bool
     requires { (length b.now ≡ block_size) × GoodSheet s.now }
     ensures { result ≡ every_seat (seat_keeps (rule_sheet s.now f.0 site rows) (farm_of b.now)) }
 {
-    for i in 0..SEATS {
-        if !row_rules::seat_keeps(b, s, f, site, rows, i) {
-            return false;
-        }
-    }
-    true
+    (0..SEATS).all(|i| row_rules::seat_keeps(b, s, f, site, rows, i))
 }
 
 // Who waits has a seat.
@@ -31,13 +26,7 @@ fn line_seated(b: &[u8]) -> bool
     requires { length b.now ≡ block_size }
     ensures { result ≡ all (λ x. ltb x seats) (farm_of b.now).line }
 {
-    let n = table_line::waiting(b);
-    for k in 0..n {
-        if SEATS <= table_line::seat_at(b, k) {
-            return false;
-        }
-    }
-    true
+    (0..table_line::waiting(b)).all(|k| table_line::seat_at(b, k) < SEATS)
 }
 
 // "a non-empty line's head needs no check or its check is already decided"; "an empty line has clock .. set"
@@ -45,14 +34,11 @@ fn head_keeps(b: &[u8], site: Site) -> bool
     requires { length b.now ≡ block_size }
     ensures { result ≡ head_keeps (site_sheet site) (farm_of b.now) (farm_of b.now).line }
 {
-    let n = table_line::waiting(b);
-    if n == 0 {
-        let c = table::clock::clock_at(b);
-        return c.ticks == 0;
+    if table_line::waiting(b) == 0 {
+        return table::clock::clock_at(b).ticks == 0;
     }
     let head = table_line::seat_at(b, 0);
-    let v = decide::head_verdict(b, site, head);
-    decide::is_pending(v)
+    decide::is_pending(decide::head_verdict(b, site, head))
 }
 
 // The farm's rules, of a farm with these three numbers and so many rows.
@@ -60,21 +46,11 @@ fn farm_keeps(b: &[u8], s: &[u8], f: FarmNo, site: Site, rows: usize) -> bool
     requires { (length b.now ≡ block_size) × GoodSheet s.now }
     ensures { result ≡ good_farm (rule_sheet s.now f.0 site rows) (farm_of b.now) }
 {
-    if !seats_keep(b, s, f, site, rows) {
-        return false;
-    }
-    let q = octets::wide(site.quota);
-    if q < decide::count_active(b) {
-        return false;
-    }
-    if !line_seated(b) {
-        return false;
-    }
-    if !head_keeps(b, site) {
-        return false;
-    }
-    let c = table::clock::clock_at(b);
-    c.ticks < Clock::CHECK
+    seats_keep(b, s, f, site, rows)
+        && decide::count_active(b) <= octets::wide(site.quota)
+        && line_seated(b)
+        && head_keeps(b, site)
+        && table::clock::clock_at(b).ticks < Clock::CHECK
 }
 
 // A slot beyond the sheet's farms owns no row.

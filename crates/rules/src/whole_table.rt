@@ -12,12 +12,8 @@ pub fn table_keeps(t: &[u8], s: &[u8]) -> bool
     requires { (length t.now ≡ table_size) × GoodSheet s.now }
     ensures { result ≡ table_keeps s.now t.now }
 {
-    for f in 0..FARMS {
-        let a = f * BLOCK;
-        let e = a + BLOCK;
-        if !block::block_keeps(&t[a..e], s, FarmNo(f as u8)) {
-            return false;
-        }
-    }
-    true
+    (0..FARMS).all(|f| {
+        let at = f * BLOCK;
+        block::block_keeps(&t[at..at + BLOCK], s, FarmNo(f as u8))
+    })
 }

@@ -18,8 +18,8 @@ pub fn site_of(s: &[u8], f: FarmNo) -> Site
     let quota = farms::quota(s, f);
     let entity = farms::entity(s, f);
     Site {
-        first: first,
-        quota: quota,
-        entity: entity,
+        first,
+        quota,
+        entity,
     }
 }

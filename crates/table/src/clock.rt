@@ -11,8 +11,9 @@ pub fn clock_at(b: &[u8]) -> Clock
     requires { length b.now ≡ block_size }
     ensures { result ≡ (farm_of b.now).clock }
 {
-    let n = octets::read16(b, CLOCK);
-    Clock { ticks: n }
+    Clock {
+        ticks: octets::read16(b, CLOCK),
+    }
 }
 
 pub fn put_clock(b: &mut [u8], c: Clock)

@@ -29,28 +29,12 @@ pub fn marks_at(b: &[u8]) -> [bool; SEATS]
     requires { length b.now ≡ block_size }
     ensures { result ≡ (farm_of b.now).marks }
 {
-    let mut m = [false; SEATS];
-    let mut i = 0;
-    while i < SEATS {
-        m[i] = b[MARKS + i] == 1;
-        i += 1;
-    }
-    m
-}
-
-fn mark_byte(m: bool) -> u8
-    ensures { result ≡ one m }
-{
-    if m { 1 } else { 0 }
+    std::array::from_fn(|seat| mark_at(b, seat))
 }
 
 pub fn put_marks(b: &mut [u8], m: [bool; SEATS])
     requires { Whole b.old }
     ensures { Holds b.new (with_marks (farm_of b.old) m) }
 {
-    let mut i = 0;
-    while i < SEATS {
-        b[MARKS + i] = mark_byte(m[i]);
-        i += 1;
-    }
+    octets::put(b, MARKS, &m.map(u8::from));
 }

@@ -13,11 +13,10 @@ use rowbytes::{HEAD, PLACE, ROW, TICKS};
 fn free_row() -> Row
     ensures { result ≡ free_row }
 {
-    let none = [0; 8];
     Row {
         state: RowState::Free,
         place: Place::Header(0),
-        head: none,
+        head: [0; 8],
     }
 }
 
@@ -51,15 +50,10 @@ pub fn put_row(b: &mut [u8], i: usize, row: Row)
     requires { (i < seats) × Whole b.old }
     ensures { Holds b.new (with_row (farm_of b.old) i row) }
 {
-    let s = row.state;
-    let p = row.place;
-    let head = row.head;
-    let state = rowbytes::state_bytes(s);
-    let place = rowbytes::place_bytes(p);
     let at = ROWS + i * ROW;
-    octets::put(b, at, &state);
-    octets::put(b, at + PLACE, &place);
-    octets::put(b, at + HEAD, &head);
+    octets::put(b, at, &rowbytes::state_bytes(row.state));
+    octets::put(b, at + PLACE, &rowbytes::place_bytes(row.place));
+    octets::put(b, at + HEAD, &row.head);
 }
 
 // The ticks alone: two bytes of the row. A row that has no ticks stays as it is.
@@ -67,14 +61,9 @@ pub fn put_ticks(b: &mut [u8], i: usize, n: u16)
     requires { (i < seats) × Whole b.old }
     ensures { Holds b.new (with_row (farm_of b.old) i (ticked n (row_at (farm_of b.old).rows i))) }
 {
-    let s = state_at(b, i);
-    match s {
-        RowState::Free => {}
-        RowState::Fresh(_) => {
-            octets::write16(b, ROWS + i * ROW + TICKS, n);
-        }
-        RowState::Waiting(_) => {}
-        RowState::Active(_, _) => {
+    match state_at(b, i) {
+        RowState::Free | RowState::Waiting(_) => {}
+        RowState::Fresh(_) | RowState::Active(_, _) => {
             octets::write16(b, ROWS + i * ROW + TICKS, n);
         }
     }

@@ -16,11 +16,7 @@ pub fn waiting(b: &[u8]) -> usize
     requires { length b.now ≡ block_size }
     ensures { result ≡ length (farm_of b.now).line }
 {
-    let n = octets::wide(b[LINE]);
-    if n < SEATS {
-        return n;
-    }
-    SEATS
+    octets::wide(b[LINE]).min(SEATS)
 }
 
 // The seat of the k-th waiter, the head being the 0th; 0 where so many do not wait.
@@ -77,8 +73,7 @@ pub fn clear_line(b: &mut [u8])
     requires { Whole b.old }
     ensures { Holds b.new (with_line (farm_of b.old) []) }
 {
-    let t = [0; SEATS];
-    store(b, 0, t);
+    store(b, 0, [0; SEATS]);
 }
 
 // "A waiter whose row closes leaves the line"
@@ -90,13 +85,11 @@ pub fn leave(b: &mut [u8], seat: usize)
     let s = seats_of(b);
     let mut t = [0; SEATS];
     let mut k: usize = 0;
-    let mut i: usize = 0;
-    while i < n {
+    for i in 0..n {
         if octets::wide(s[i]) != seat {
             t[k] = s[i];
             k += 1;
         }
-        i += 1;
     }
     store(b, k as u8, t);
 }

@@ -13,18 +13,16 @@ use table::{LINE, METERS};
 fn more(meter: u32, head: u32, payload: u32) -> u32
     ensures { result ≡ wrap (meter + (head + payload)) }
 {
-    std::num::wrapping_add_u32(std::num::wrapping_add_u32(meter, head), payload)
+    meter.wrapping_add(head).wrapping_add(payload)
 }
 
 // "taken (bytes taken)"
 pub fn took(m: Meters, head: u32, payload: u32) -> Meters
     ensures { result ≡ took_more (head + payload) m }
 {
-    let n = more(m.taken, head, payload);
     Meters {
-        taken: n,
-        finished: m.finished,
-        lost: m.lost,
+        taken: more(m.taken, head, payload),
+        ..m
     }
 }
 
@@ -32,11 +30,9 @@ pub fn took(m: Meters, head: u32, payload: u32) -> Meters
 pub fn ended(m: Meters, head: u32, payload: u32) -> Meters
     ensures { result ≡ finished_more (head + payload) m }
 {
-    let n = more(m.finished, head, payload);
     Meters {
-        taken: m.taken,
-        finished: n,
-        lost: m.lost,
+        finished: more(m.finished, head, payload),
+        ..m
     }
 }
 
@@ -44,11 +40,9 @@ pub fn ended(m: Meters, head: u32, payload: u32) -> Meters
 pub fn lose(m: Meters, head: u32, payload: u32) -> Meters
     ensures { result ≡ lost_more (head + payload) m }
 {
-    let n = more(m.lost, head, payload);
     Meters {
-        taken: m.taken,
-        finished: m.finished,
-        lost: n,
+        lost: more(m.lost, head, payload),
+        ..m
     }
 }
 
@@ -56,13 +50,10 @@ fn read_meters(s: &[u8]) -> Meters
     requires { length s.now ≡ meters_size }
     ensures { result ≡ meters_from s.now }
 {
-    let t = octets::read32(s, 0);
-    let f = octets::read32(s, 4);
-    let l = octets::read32(s, 8);
     Meters {
-        taken: t,
-        finished: f,
-        lost: l,
+        taken: octets::read32(s, 0),
+        finished: octets::read32(s, 4),
+        lost: octets::read32(s, 8),
     }
 }
 

@@ -7,67 +7,32 @@ ghost use Rattle.table.specs.Layout.{block_size};
 ghost use Rattle.table.specs.Block.{Whole, LineOk, MarksOk, RowsOk};
 
 use rowbytes::ROW;
-use table::{BLOCK, FIRST_SEAT, LINE, MARKS, ROWS, SEATS};
+use table::{BLOCK, CLOCK, FIRST_SEAT, LINE, MARKS, ROWS, SEATS};
 
 fn line_ok(b: &[u8]) -> bool
     requires { length b.now ≡ block_size }
     ensures { Says result (LineOk b.now) }
 {
     let n = octets::wide(b[LINE]);
-    if SEATS < n {
-        return false;
-    }
-    let mut i = n;
-    while i < SEATS {
-        if b[FIRST_SEAT + i] != 0 {
-            return false;
-        }
-        i += 1;
-    }
-    true
+    n <= SEATS && b[FIRST_SEAT + n..CLOCK].iter().all(|seat| *seat == 0)
 }
 
 fn marks_ok(b: &[u8]) -> bool
     requires { length b.now ≡ block_size }
     ensures { Says result (MarksOk b.now) }
 {
-    let mut i = 0;
-    while i < SEATS {
-        if 1 < b[MARKS + i] {
-            return false;
-        }
-        i += 1;
-    }
-    true
+    b[MARKS..ROWS].iter().all(|mark| *mark <= 1)
 }
 
 fn rows_ok(b: &[u8]) -> bool
     requires { length b.now ≡ block_size }
     ensures { Says result (RowsOk b.now) }
 {
-    let mut i = 0;
-    while i < SEATS {
-        let a = ROWS + i * ROW;
-        let e = a + ROW;
-        if !rowbytes::row_ok(&b[a..e]) {
-            return false;
-        }
-        i += 1;
-    }
-    true
+    b[ROWS..].chunks_exact(ROW).all(rowbytes::row_ok)
 }
 
 pub fn is_whole(b: &[u8]) -> bool
     ensures { Says result (Whole b.now) }
 {
-    if b.len() != BLOCK {
-        return false;
-    }
-    if !line_ok(b) {
-        return false;
-    }
-    if !marks_ok(b) {
-        return false;
-    }
-    rows_ok(b)
+    b.len() == BLOCK && line_ok(b) && marks_ok(b) && rows_ok(b)
 }
