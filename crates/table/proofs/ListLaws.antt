@@ -1,7 +1,7 @@
 -- Laws of lists: a function over each member of a list of which one changes.
 -- Assumes nothing.
 use mathlib.Core.Path.{◌≡◌, refl, sym, ap, ◌∙◌}
-use mathlib.Core.List.{List, [], ◌∷◌, ◌++◌, map, append_assoc, append-nil}
+use mathlib.Core.List.{List, [], ◌∷◌, ◌++◌, map, append_assoc}
 use Prim.Native.Nat.{ℕ, zero, suc, ◌-◌, ◌≤◌, ◌<◌}
 use native.Mathlib.Omega.{arith}
 use lib.ListN.{length, get_or, set, replicate, length-append, length-replicate}
@@ -46,10 +46,3 @@ filled_next n z l x h =
     ap (λ (m : ℕ). set (l ++ replicate m z) (length l) x) k
     ∙ set-append_seam l z (replicate (n - length (l ++ (x ∷ []))) z) x
     ∙ sym (append_assoc l (x ∷ []) (replicate (n - length (l ++ (x ∷ []))) z))
-
-pub filled-done : {A : Type 0} (n : ℕ) (z : A) (l : List A) → length l ≡ n → filled n z l ≡ l
-filled-done n z l h = let k : n - length l ≡ 0 = omega arith in ap (λ (m : ℕ). l ++ replicate m z) k ∙ append-nil l
-
-pub map_snoc : {A B : Type 0} (f : A → B) (l : List A) (x : A) → map f (l ++ (x ∷ [])) ≡ map f l ++ (f x ∷ [])
-map_snoc f [] x = refl
-map_snoc f (y ∷ l) x = ap (λ t. f y ∷ t) (map_snoc f l x)

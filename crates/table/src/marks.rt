@@ -1,6 +1,5 @@
 // "a mark "answered" for each of its at most nine rows, kept by value": passed in, and handed back changed.
 ghost use Rattle.std.specs.Prelude.{◌≡◌, true, ◌<◌, length, set};
-ghost use Rattle.octets.specs.Choice.{one};
 ghost use Rattle.model.specs.Farm.{with_marks};
 ghost use Rattle.model.specs.Line.{is_marked};
 ghost use Rattle.table.specs.Layout.{seats, block_size};

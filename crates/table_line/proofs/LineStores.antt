@@ -3,13 +3,13 @@
 use mathlib.Core.Path.{◌≡◌, refl, sym, ap, ◌∙◌}
 use mathlib.Core.Bool.{Bool, true, false}
 use mathlib.Core.List.{List, [], ◌∷◌, ◌++◌, append_assoc, append-nil}
-use Prim.Native.Nat.{ℕ, suc, ◌+◌, ◌-◌, ◌≤◌, ◌<◌}
+use Prim.Native.Nat.{ℕ, suc, ◌+◌, ◌-◌, ◌≤◌, ◌<◌, min}
 use native.Mathlib.Numerals.{add-one}
 use native.Mathlib.Omega.{arith}
 use borrow.Author.Tests.{eq-eqb, ne_eqb}
 use lib.Dec.{eqb}
 use lib.ListN.{length, get_or, take, drop, set, replicate, length-append, length-drop, length-take, replicate-append-replicate, get_or-eq_default, drop_of_length-le}
-use lib.Seq.{take_at, take-suc, take-take, take_all, take-nil, drop-drop, length-take-le, get_or-take}
+use lib.Seq.{take_at, take-suc, take-take, take-nil, drop-drop, get_or-take}
 use Rattle.octets.specs.Choice.{pick}
 use Rattle.octets.specs.Put.{put_at}
 use Rattle.octets.specs.Parts.{part}
@@ -58,11 +58,9 @@ module _ (b : List ℕ) where
     seats-long : length (part b seats_at seats) ≡ seats
     seats-long = length_part b seats_at seats (omega arith)
 
-    pub some_wait : get_or b line_at 0 < seats → get_or b line_at 0 ≡ length (farm_of b).line
-    some_wait h = sym (ap length line-is ∙ length-take-le (get_or b line_at 0) (part b seats_at seats) (omega (arith, seats-long)))
-
-    pub all_wait : seats ≤ get_or b line_at 0 → seats ≡ length (farm_of b).line
-    all_wait h = sym (ap length line-is ∙ ap length (take_all (get_or b line_at 0) (part b seats_at seats) (omega (arith, seats-long))) ∙ seats-long)
+    -- at most nine wait, whatever the count says
+    pub so_many : min (get_or b line_at 0) seats ≡ length (farm_of b).line
+    so_many = sym (ap length line-is ∙ length-take (get_or b line_at 0) (part b seats_at seats) ∙ ap (min (get_or b line_at 0)) seats-long)
 
   pub seat_read : (k : ℕ) → k < length (farm_of b).line → get_or b (seats_at + k) 0 ≡ get_or (farm_of b).line k 0
   seat_read k h =

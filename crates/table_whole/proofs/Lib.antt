@@ -1,2 +1,3 @@
 pub mod WholeLaws
 pub mod WholeTest
+pub mod PartsYield

@@ -1,6 +1,6 @@
 -- A block is whole exactly where its line, marks and rows pass their tests; bytes of meters and clock always do.
 -- Assumes nothing.
-use mathlib.Core.Path.{◌≡◌, refl, sym, ap, ◌∙◌}
+use mathlib.Core.Path.{◌≡◌, refl, sym, ap, subst, ◌∙◌}
 use mathlib.Core.Bool.{Bool, true, false}
 use mathlib.Core.List.{List, [], ◌∷◌, ◌++◌}
 use Prim.Native.Nat.{ℕ, zero, suc, ◌+◌, ◌-◌, ◌*◌, ◌≤◌, ◌<◌}
@@ -10,6 +10,11 @@ use lib.Seq.{drop-cons, get_or-drop, get_or-append-add, ext_get_or, length-take-
 use Rattle.octets.specs.Choice.{one}
 use Rattle.octets.specs.Numbers.{u32_at, be32}
 use Rattle.octets.specs.Parts.{part, parts}
+use Rattle.octets.specs.Says.{Says}
+use Rattle.octets.proofs.SaysLaws.{says-yes, says_no}
+use Rattle.std.specs.Bool.{MatchBool}
+use Rattle.std.specs.List.{AllWithin, HoldsAt}
+use mathlib.Core.Logic.{◌≢◌}
 use Rattle.octets.proofs.PartsLaws.{get_or-part, length_part, parts_get, parts-length}
 use Rattle.rowbytes.specs.RowLayout.{row_size}
 use Rattle.rowbytes.specs.RowBytes.{row_image, row_from, RowOk}
@@ -90,6 +95,23 @@ module _ (b : List ℕ) (long : length b ≡ block_size) where
       ∙ get_or-append-add l (replicate (seats - length l) 0) (j - length l) 0
       ∙ get_or-replicate (seats - length l) (j - length l) 0 0 (omega arith)
 
+  -- the bytes past the waiters, each asked whether it is 0
+  pub line-says : (n : ℕ) → n ≡ get_or b line_at 0 → n ≤ seats → (r : Bool)
+      → MatchBool r (AllWithin (λ x. x ≡ 0) (part b (seats_at + n) (seats - n)) 0 (length (part b (seats_at + n) (seats - n))))
+      ((k : ℕ) × (k < length (part b (seats_at + n) (seats - n))) × HoldsAt (λ x. x ≢ 0) (part b (seats_at + n) (seats - n)) k) → Says r (LineOk b)
+  line-says n e few true h =
+      says-yes
+      (line-passes (omega (arith, e)) (λ j u v.
+      let z : seats_at + n + (j - n) ≡ seats_at + j = omega (arith, e) in
+      let k : j - n < seats - n = omega (arith, e) in
+      ap (λ (i : ℕ). get_or b i 0) (sym z) ∙ sym (get_or-part b (seats_at + n) (seats - n) (j - n) k)
+      ∙ h (j - n) 0 (omega arith) (omega (arith, length_part b (seats_at + n) (seats - n) (omega arith)))))
+  line-says n e few false h =
+      let k : h.0 < seats - n = omega (arith, h.1, length_part b (seats_at + n) (seats - n) (omega arith)) in
+      let z : seats_at + n + h.0 ≡ seats_at + (n + h.0) = omega arith in
+      says_no
+      (λ q. h.2 0 (get_or-part b (seats_at + n) (seats - n) h.0 k ∙ ap (λ (i : ℕ). get_or b i 0) z ∙ line_zeros q (n + h.0) (omega (arith, e)) (omega arith)))
+
   -- ---- the marks
 
   marks-seats : length (part b marks_at seats) ≡ seats
@@ -117,6 +139,15 @@ module _ (b : List ℕ) (long : length b ≡ block_size) where
       let x : ℕ = get_or (part b marks_at seats) i 0 in
       omega (arith, back_each is_one one (part b marks_at seats) 0 e i (omega (arith, marks-seats b long)), small (is_one x), get_or-part b marks_at seats i h)
 
+  -- the bytes of the marks, each asked whether it is 0 or 1
+  pub marks_say : (r : Bool)
+      → MatchBool r (AllWithin (λ x. x ≤ 1) (part b marks_at seats) 0 (length (part b marks_at seats)))
+      ((k : ℕ) × (k < length (part b marks_at seats)) × HoldsAt (λ x. 1 < x) (part b marks_at seats) k) → Says r (MarksOk b)
+  marks_say true h = says-yes (marks_pass (λ i k. omega (arith, get_or-part b marks_at seats i k, h i 0 (omega arith) (omega (arith, marks-seats b long)))))
+  marks_say false h =
+      let k : h.0 < seats = omega (arith, h.1, marks-seats b long) in
+      says_no (λ e. omega (arith, marks_bits e h.0 k, h.2 0, get_or-part b marks_at seats h.0 k))
+
   -- ---- the rows
 
   pub rows_pass : ((i : ℕ) → i < seats → RowOk (part b (rows_at + i * row_size) row_size)) → RowsOk b
@@ -132,3 +163,13 @@ module _ (b : List ℕ) (long : length b ≡ block_size) where
       let l : List (List ℕ) = parts row_size rows_at seats b in
       let g : get_or l i [] ≡ part b (rows_at + i * row_size) row_size = parts_get row_size rows_at seats i b h in
       ap (λ (s : List ℕ). row_image (row_from s)) (sym g) ∙ back_each row_from row_image l [] e i (omega (arith, parts-length row_size rows_at seats b)) ∙ g
+
+  -- the rows' bytes, each asked whether they are a row's
+  pub rows-say : (r : Bool) → MatchBool r (AllWithin RowOk (parts row_size rows_at seats b) 0 (length (parts row_size rows_at seats b)))
+      ((k : ℕ) × (k < length (parts row_size rows_at seats b)) × HoldsAt (λ s. RowOk s → ⊥) (parts row_size rows_at seats b) k) → Says r (RowsOk b)
+  rows-say true h =
+      says-yes
+      (rows_pass (λ i k. subst (λ (s : List ℕ). RowOk s) (parts_get row_size rows_at seats i b k) (h i [] (omega arith) (omega (arith, parts-length row_size rows_at seats b)))))
+  rows-say false h =
+      let k : h.0 < seats = omega (arith, h.1, parts-length row_size rows_at seats b) in
+      says_no (λ e. h.2 [] (subst (λ (s : List ℕ). RowOk s) (sym (parts_get row_size rows_at seats h.0 b k)) (rows-each e h.0 k)))

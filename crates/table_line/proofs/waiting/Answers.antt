@@ -1,12 +1,10 @@
 -- `waiting` meets its contract.
 -- Assumes nothing.
-use mathlib.Core.Path.{◌∙◌}
-use native.Mathlib.Omega.{arith}
-use Rattle.table_line.proofs.LineStores.{some_wait, all_wait}
+use mathlib.Core.Path.{ap, ◌∙◌}
+use Prim.Native.Nat.{ℕ, min}
+use Rattle.table.specs.Layout.{seats}
+use Rattle.table_line.proofs.LineStores.{so_many}
 use Rattle.table_line.proofs.waiting.Goals as goal
 
-pub returns-then-n-lt-SEATS : goal.returns-then-n-lt-SEATS
-returns-then-n-lt-SEATS c = c.wide-n.ensures ∙ some_wait c.args.b.now c.requires (omega (arith, c.wide-n.ensures))
-
 pub returns : goal.returns
-returns c = all_wait c.args.b.now c.requires (omega (arith, c.wide-n.ensures))
+returns c = c.min.ensures ∙ ap (λ (n : ℕ). min n seats) c.wide.ensures ∙ so_many c.args.b.now c.requires

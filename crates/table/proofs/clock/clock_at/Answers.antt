@@ -6,4 +6,4 @@ use Rattle.table.proofs.BlockLaws.{clock_read}
 use Rattle.table.proofs.clock.clock_at.Goals as goal
 
 pub returns : goal.returns
-returns c = ap clock_of c.read16-n.ensures ∙ clock_read c.args.b.now
+returns c = ap clock_of c.read16.ensures ∙ clock_read c.args.b.now

@@ -1,16 +1,13 @@
 -- `marks::marks_at` meets its contract.
 -- Assumes nothing.
-use native.Mathlib.Omega.{arith}
-use Rattle.table.proofs.MarkLaws.{read_none, read_more, read_all}
+use mathlib.Core.Path.{refl}
+use mathlib.Core.Bool.{false}
+use Rattle.std.proofs.Common.{rules}
+use Rattle.model.specs.Line.{is_marked}
+use Rattle.table.specs.Block.{farm_of}
+use Rattle.table.proofs.ArrayLaws.{made_by}
+use Rattle.table.proofs.MarkLaws.{marks-seats}
 use Rattle.table.proofs.marks.marks_at.Goals as goal
 
-pub loop-i-init : goal.loop-i-init
-loop-i-init c = (omega arith, read_none c.args.b.now)
-
-pub loop-i-preserved : goal.loop-i-preserved
-loop-i-preserved c =
-    let l = c.loop-i in
-    (omega arith, read_more c.args.b.now c.requires l.m l.i c.loop-i-test.true l.invariant.1)
-
 pub returns : goal.returns
-returns c = read_all c.args.b.now c.requires c.loop-i.m c.loop-i.i c.loop-i-test.false c.loop-i.invariant.1
+returns c = made_by _ _ (is_marked (farm_of c.args.b.now).marks) (λ x y q k. search rules) _ (farm_of c.args.b.now).marks 9 false c.from_fn.ensures.items (marks-seats c.args.b.now c.requires) (λ k l. refl)

@@ -1,35 +1,29 @@
 -- `marks::put_marks` meets its contract.
 -- Assumes nothing.
-use mathlib.Core.Path.{◌≡◌, refl, ◌∙◌}
-use Prim.Native.Nat.{◌+◌}
-use native.Mathlib.Omega.{arith}
+use mathlib.Core.Path.{◌≡◌, refl, ap, ◌∙◌}
+use mathlib.Core.Bool.{Bool, true, false}
+use mathlib.Core.List.{map}
 use lib.ListN.{length}
-use Rattle.table.specs.Layout.{seats, marks_at}
-use Rattle.table.proofs.MarkLaws.{put-none, put-one-more, put_all}
-use lib.ListN.{length-set}
 use borrow.Author.Rules.{rules}
+use Rattle.std.specs.Int.{from_bool}
+use Rattle.octets.specs.Choice.{one}
+use Rattle.octets.specs.Put.{put_at}
+use Rattle.table.specs.Layout.{seats, marks_at}
+use Rattle.table.specs.Block.{marks_image}
+use Rattle.table.proofs.BlockLaws.{marks-put}
+use Rattle.table.proofs.ArrayLaws.{mapped_by}
 use Rattle.table.proofs.marks.put_marks.Goals as goal
 
-pub bounds-b-i : goal.bounds-b-i
-bounds-b-i c = omega (arith, c.requires.long, c.loop-i.invariant.2)
-
-pub shape_of-b : goal.shape_of-b
-shape_of-b c = c.loop-i.invariant.2
-
-pub loop-i-init : goal.loop-i-init
-loop-i-init c = (omega arith, put-none c.args.b.now c.args.m, refl)
+as_one : (b : Bool) → from_bool b ≡ one b
+as_one true = refl
+as_one false = refl
 
 pub returns : goal.returns
+unfolding marks_image
 returns c =
-    let l = c.loop-i in
-    let nine : length c.args.m ≡ seats = search rules in
-    put_all c.args.b.now c.args.m nine c.requires l.b l.i c.loop-i-test.false l.invariant.1
-
-pub loop-i-preserved : goal.loop-i-preserved
-loop-i-preserved c =
-    let l = c.loop-i in
-    let nine : length c.args.m ≡ seats = search rules in (
-      omega arith,
-      put-one-more c.args.b.now c.args.m nine l.b l.i _ c.requires.long c.loop-i-test.true l.invariant.1 c.mark_byte.ensures,
-      length-set l.b (marks_at + l.i) _ ∙ l.invariant.2,
-    )
+    let s = c.args in
+    let nine : length s.m ≡ seats = search rules in
+    let e : c.map.result ≡ map one s.m =
+    mapped_by _ _ one (λ x y p q k. let z : y ≡ from_bool x = search rules in z ∙ as_one x) s.m c.map.result _ false c.map.ensures.items nine
+    in
+    marks-put s.b.now _ c.requires s.m nine (c.put.ensures ∙ ap (put_at s.b.now marks_at) e)

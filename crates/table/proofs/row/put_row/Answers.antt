@@ -26,6 +26,6 @@ returns c =
     let x = c.put in
     let y = c.put-2 in
     row-stored b c.requires.1 i c.requires.0 x.new.out y.new.out _ c.args.row nine
-    (x.ensures ∙ ap (put_at b at) c.state_bytes-state.ensures)
-    (y.ensures ∙ ap (put_at x.new.out (at + place_in)) c.place_bytes-place.ensures)
+    (x.ensures ∙ ap (put_at b at) c.state_bytes.ensures)
+    (y.ensures ∙ ap (put_at x.new.out (at + place_in)) c.place_bytes.ensures)
     c.put-3.ensures

@@ -1,6 +1,0 @@
--- `lose` meets its contract.
--- Assumes nothing.
-use Rattle.table_meters.proofs.lose.Goals as goal
-
-pub returns : goal.returns
-returns c = cc
