@@ -1,6 +1,6 @@
 -- Chains over the places of a list: what they find, count and ask of each place is what the list's members say.
 -- Assumes nothing.
-use Rattle.std.proofs.Common.{Option, Some, None}
+use Rattle.std.proofs.Common.{Some}
 use Rattle.std.specs.List.{range_with_len, find, filter, list_any, list_all}
 use mathlib.Core.Path.{◌≡◌, refl, sym, ap, ◌∙◌}
 use mathlib.Core.Bool.{Bool, true, false, cond, not, ◌&&◌, ◌||◌}

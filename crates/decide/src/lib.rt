@@ -63,18 +63,19 @@ pub fn count_active(b: &[u8]) -> usize
 }
 
 // "q rows active: a check of all active rows of the farm. - else 10"
+#[tactic(auto, unfolding(model::specs::Line::accepted, crate::specs::SiteSheet::site_sheet))]
 fn by_places(b: &[u8], site: Site) -> Decision
     requires { length b.now ≡ block_size }
     ensures { result ≡ by_places (site_sheet site) (farm_of b.now).rows }
 {
-    let q = octets::wide(site.quota);
-    if q <= count_active(b) {
+    if octets::wide(site.quota) <= count_active(b) {
         return Decision::Ask(Check::All);
     }
     Decision::Now(ACCEPTED)
 }
 
 // "address active on another row of the farm: a check of that row"
+#[tactic(auto, unfolding(model::specs::Line::socket_rules))]
 pub fn socket_rules(b: &[u8], site: Site, address: u16) -> Decision
     requires { length b.now ≡ block_size }
     ensures { result ≡ socket_rules (site_sheet site) (farm_of b.now).rows address }
@@ -119,7 +120,7 @@ pub fn all_answered(b: &[u8], check: Check, m: [bool; SEATS]) -> bool
     requires { length b.now ≡ block_size }
     ensures { result ≡ all_answered check m (farm_of b.now).rows }
 {
-    !(0..SEATS).any(|seat| is_silent(b, check, m, seat))
+    (0..SEATS).all(|seat| !is_silent(b, check, m, seat))
 }
 
 // "03 (check of that row) or 01 (check of all)"
@@ -133,6 +134,7 @@ fn refusal_of(check: Check) -> u8
 }
 
 // "If all asked rows answered: 03 .. or 01 .. If the clock is 50: unanswered asked rows close, then 10."
+#[tactic(auto, unfolding(kinds::specs::Clock::check_limit))]
 fn check_verdict(b: &[u8], check: Check) -> HeadVerdict
     requires { length b.now ≡ block_size }
     ensures { result ≡ verdict_by (farm_of b.now) (Ask check) }
@@ -149,6 +151,7 @@ fn check_verdict(b: &[u8], check: Check) -> HeadVerdict
 }
 
 // "the head is decided afresh; if it needs no check, it has its answer"
+#[tactic(auto, unfolding(model::specs::Line::head_verdict))]
 pub fn head_verdict(b: &[u8], site: Site, head: usize) -> HeadVerdict
     requires { length b.now ≡ block_size }
     ensures { result ≡ head_verdict (site_sheet site) (farm_of b.now) head }
