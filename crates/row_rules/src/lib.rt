@@ -98,6 +98,7 @@ fn state_keeps(
 
 // ---- the seat
 
+#[tactic(auto, using(crate::proofs::FarmLaws::asked_carried), unfolding(crate::specs::Seat::seat_test, crate::specs::Seat::rule_sheet))]
 pub fn seat_keeps(b: &[u8], s: &[u8], f: FarmNo, site: Site, rows: usize, i: usize) -> bool
     requires { (i < seats) × (length b.now ≡ block_size) × GoodSheet s.now }
     ensures { result ≡ seat_test (rule_sheet s.now f.0 site rows) (farm_of b.now) i }

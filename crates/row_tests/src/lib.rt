@@ -31,7 +31,7 @@ pub fn times_in(b: &[u8], i: usize) -> usize
     ensures { result ≡ times i (farm_of b.now).line }
 {
     (0..table_line::waiting(b))
-        .filter(|k| table_line::seat_at(b, *k) == i)
+        .filter(|k| i == table_line::seat_at(b, *k))
         .count()
 }
 
