@@ -20,9 +20,9 @@ fn say_farm<R: Print + Eprint>(
 {
     let at = line_at(rt, text, used);
     if in_words {
-        return explain::closing::put_farm(text, at, f, m.taken, m.finished, m.lost);
+        return explain::closing::put_farm(text, at, f, m);
     }
-    lines::put_farm(text, at, f, m.taken, m.finished, m.lost)
+    lines::put_farm(text, at, f, m)
 }
 
 // "for each farm of the sheet last lent (if it is a good one)"
