@@ -1,4 +1,6 @@
 // What is said of a message that is sent, and of a payload that is handed on.
+#![tactic(auto, unfolding(crate::specs::Messages::nack_text, crate::specs::Messages::activation_text, crate::specs::Messages::alive_text, crate::specs::Messages::status_text, crate::specs::Messages::mode_text, crate::specs::Messages::diagnostic_text, crate::specs::Messages::answered_text, crate::specs::Messages::message_text, crate::specs::Messages::handed_text))]
+
 ghost use Rattle.std.specs.Prelude.{◌≡◌, [], ◌∷◌, length};
 ghost use Rattle.octets.specs.Numbers.{u16_at};
 ghost use Rattle.words.specs.Book.{phrase};
@@ -118,6 +120,7 @@ fn answered(p: &[u8], which: usize) -> Sentence
 }
 
 // The type says which.
+#[tactic(auto, unfolding(crate::specs::Messages::payload_text, words::specs::Book::phrase, words::specs::Book::book))]
 fn payload(kind: u16, p: &[u8]) -> Sentence
     ensures { sentence_text result ≡ payload_text kind p.now }
 {
