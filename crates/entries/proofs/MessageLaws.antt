@@ -10,6 +10,7 @@ use Rattle.words.specs.declared.fill.Arg.TheVariants.{Number, Address, Code, Phr
 use Rattle.words.proofs.FillLaws.{holes}
 use Rattle.words.proofs.SentenceLaws.{says, says_plain}
 use Rattle.entries.specs.Messages.{unreadable}
+use Rattle.entries.proofs.EntryLaws.{rest_long, rest_whole}
 
 pub odd_says : sentence_text (sentence 39 []) ≡ unreadable
 unfolding phrase book holes
@@ -100,3 +101,24 @@ odd_kind-says k = says 43 "an entry of an unknown kind, %" (Number k ∷ []) ref
 pub odd_entry-phrase : phrase 44 ≡ spelled "    an entry that can not be read"
 unfolding phrase book
 odd_entry-phrase = refl
+
+-- what the sentences say
+pub ruleset said = (
+  odd_says,
+  nack-says,
+  activation_says,
+  alive-says,
+  status-says,
+  mode_says,
+  diagnostic-says,
+  answered-says,
+  handed_says,
+  odd_payload-says,
+  identity_says,
+  to_sender-says,
+  to_row-says,
+  closed-says,
+  odd_kind-says,
+  rest_long,
+  rest_whole,
+)

@@ -1,5 +1,5 @@
 // What is said of a message that is sent, and of a payload that is handed on.
-#![tactic(auto, unfolding(crate::specs::Messages::nack_text, crate::specs::Messages::activation_text, crate::specs::Messages::alive_text, crate::specs::Messages::status_text, crate::specs::Messages::mode_text, crate::specs::Messages::diagnostic_text, crate::specs::Messages::answered_text, crate::specs::Messages::message_text, crate::specs::Messages::handed_text))]
+#![tactic(auto, using(crate::proofs::MessageLaws::said), unfolding(crate::specs::Messages::nack_text, crate::specs::Messages::activation_text, crate::specs::Messages::alive_text, crate::specs::Messages::status_text, crate::specs::Messages::mode_text, crate::specs::Messages::diagnostic_text, crate::specs::Messages::answered_text, crate::specs::Messages::message_text, crate::specs::Messages::handed_text))]
 
 ghost use Rattle.std.specs.Prelude.{◌≡◌, [], ◌∷◌, length};
 ghost use Rattle.octets.specs.Numbers.{u16_at};
