@@ -1,4 +1,6 @@
 // The farms' meters, and how the file ended.
+#![tactic(auto, using(crate::proofs::HeadingLaws::said), unfolding(crate::specs::Closings::farm_text, crate::specs::Closings::last_text))]
+
 ghost use Rattle.std.specs.Prelude.{◌≡◌};
 ghost use Rattle.words.specs.Said.{Said};
 ghost use Rattle.words.specs.Sentence.{sentence_text};

@@ -1,4 +1,6 @@
 // The heading of a call.
+#![tactic(auto, using(crate::proofs::HeadingLaws::said), unfolding(crate::specs::Headings::call_text, crate::specs::Headings::done_text, crate::specs::Headings::refused_text, crate::specs::Headings::count_text))]
+
 ghost use Rattle.std.specs.Prelude.{◌≡◌};
 ghost use Rattle.words.specs.Said.{Said};
 ghost use Rattle.words.specs.Sentence.{sentence_text};
