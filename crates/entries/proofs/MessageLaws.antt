@@ -37,12 +37,15 @@ alive-says = says_plain 33 "sent alive check request (0007)" refl refl
 pub status-says : (q n m : ℕ) → sentence_text (sentence 34 (Number q ∷ Number n ∷ Number m ∷ []))
     ≡ filled "sent entity status response (4002): places for testers %, rows open %, longest message % bytes" (decimal q ∷ decimal n ∷ decimal m ∷ [])
 unfolding phrase book
-status-says q n m = says 34 "sent entity status response (4002): places for testers %, rows open %, longest message % bytes" (Number q ∷ Number n ∷ Number m ∷ []) refl (omega arith)
+status-says q n m =
+    says 34 "sent entity status response (4002): places for testers %, rows open %, longest message % bytes" (Number q ∷ Number n ∷ Number m ∷ []) refl (omega arith)
 
 pub mode_says : (c k : ℕ) → phrase k ≡ mode_name c → sentence_text (sentence 35 (Code c ∷ Phrase k ∷ []))
     ≡ filled "sent power mode response (4004): %, %" (code c ∷ mode_name c ∷ [])
 unfolding phrase book
-mode_says c k e = says 35 "sent power mode response (4004): %, %" (Code c ∷ Phrase k ∷ []) refl (omega arith) ∙ ap (λ (x : List ℕ). filled "sent power mode response (4004): %, %" (code c ∷ x ∷ [])) e
+mode_says c k e =
+    says 35 "sent power mode response (4004): %, %" (Code c ∷ Phrase k ∷ []) refl (omega arith)
+    ∙ ap (λ (x : List ℕ). filled "sent power mode response (4004): %, %" (code c ∷ x ∷ [])) e
 
 pub diagnostic-says : (x y : ℕ) {n m : ℕ} → n ≡ m → sentence_text (sentence 36 (Address x ∷ Address y ∷ Number n ∷ []))
     ≡ filled "sent diagnostic message (8001): from controller % to tester %, user data % bytes" (address x ∷ address y ∷ decimal m ∷ [])

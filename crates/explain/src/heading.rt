@@ -1,6 +1,4 @@
 // The heading of a call.
-#![tactic(auto, using(crate::proofs::HeadingLaws::said), unfolding(crate::specs::Headings::call_text, crate::specs::Headings::done_text, crate::specs::Headings::refused_text, crate::specs::Headings::count_text))]
-
 ghost use Rattle.std.specs.Prelude.{◌≡◌};
 ghost use Rattle.words.specs.Said.{Said};
 ghost use Rattle.words.specs.Sentence.{sentence_text};
@@ -10,6 +8,7 @@ use day::records::Call;
 use words::fill::{Arg, Sentence, with};
 use words::{book, fill, names, put};
 
+#[tactic(auto, using(crate::proofs::HeadingLaws::said), unfolding(crate::specs::Headings::call_text))]
 fn about(call: Call) -> Sentence
     ensures { sentence_text result ≡ call_text call }
 {
@@ -29,6 +28,7 @@ fn about(call: Call) -> Sentence
 }
 
 // So many bytes were given, and so many taken.
+#[tactic(auto, using(crate::proofs::HeadingLaws::said), unfolding(crate::specs::Headings::done_text))]
 fn done(call: Call, row: u8, taken: usize, given: usize) -> Sentence
     ensures { sentence_text result ≡ done_text call row taken given }
 {
@@ -39,6 +39,7 @@ fn done(call: Call, row: u8, taken: usize, given: usize) -> Sentence
     }
 }
 
+#[tactic(auto, using(crate::proofs::HeadingLaws::said), unfolding(crate::specs::Headings::refused_text))]
 fn refused(number: u8) -> Sentence
     ensures { sentence_text result ≡ refused_text number }
 {
@@ -60,6 +61,7 @@ fn answer(call: Call, number: u8, row: u8, taken: usize, given: usize) -> Senten
     }
 }
 
+#[tactic(auto, using(crate::proofs::HeadingLaws::said), unfolding(crate::specs::Headings::count_text))]
 fn count(n: usize) -> Sentence
     ensures { sentence_text result ≡ count_text n }
 {
