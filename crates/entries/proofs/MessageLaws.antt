@@ -59,14 +59,6 @@ pub answered-says : (w c t x k : ℕ) → phrase k ≡ diagnostic_name x
     ≡ fill (phrase w) (address c ∷ address t ∷ code x ∷ diagnostic_name x ∷ [])
 answered-says w c t x k h = ap (λ (l : List ℕ). fill (phrase w) (address c ∷ address t ∷ code x ∷ l ∷ [])) h
 
-pub positive_phrase : phrase 37 ≡ spelled "sent diagnostic positive acknowledge (8002): from controller % to tester %, code %, %"
-unfolding phrase book
-positive_phrase = refl
-
-pub negative_phrase : phrase 38 ≡ spelled "sent diagnostic negative acknowledge (8003): from controller % to tester %, code %, %"
-unfolding phrase book
-negative_phrase = refl
-
 pub handed_says : (x y : ℕ) {n m : ℕ} → n ≡ m → sentence_text (sentence 41 (Address x ∷ Address y ∷ Number n ∷ []))
     ≡ filled "handed on: from tester % to controller %, user data % bytes" (address x ∷ address y ∷ decimal m ∷ [])
 unfolding phrase book
