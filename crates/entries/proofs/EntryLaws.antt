@@ -1,14 +1,10 @@
--- Where an entry lies, by the three tests of `find`.
+-- Where an entry lies, by the three tests of `find`, and what is left behind a head.
 -- Assumes nothing.
-use Rattle.std.proofs.Common.{◌≡◌, ℕ, ◌+◌, ◌-◌, ◌≤◌, ◌<◌, true, List, length, take, drop, refl, ap, ◌∙◌, Some, None, arith, lt-ltb, le-ltb, length-drop}
-use Rattle.std.specs.Prelude.{eqb}
-use borrow.Author.Tests.{eqb-true}
+use Rattle.std.proofs.Common.{◌≡◌, ℕ, ◌+◌, ◌-◌, ◌≤◌, ◌<◌, List, length, take, drop, refl, ap, ◌∙◌, Some, None, arith, lt-ltb, le-ltb, length-drop}
 use lib.Seq.{take_all}
 use Rattle.octets.specs.Numbers.{u16_at}
-use Rattle.octets.proofs.ChoiceLaws.{both_left, both_right}
 use Rattle.words.proofs.PickLaws.{yes, no}
-use Rattle.entries.specs.Messages.{is_identity}
-use Rattle.entries.specs.Entries.{spot_of, is_apart}
+use Rattle.entries.specs.Entries.{spot_of}
 
 pub spot_short : (n f long : ℕ) → n < f + 4 → None ≡ spot_of n f long
 unfolding spot_of
@@ -27,11 +23,6 @@ pub spot_read : (s : List ℕ) (o f long : ℕ) → f ≡ u16_at s o → long �
     → spot_of (length s) f long ≡ spot_of (length s) (u16_at s o) (u16_at s (u16_at s o + 2))
 spot_read s o f long e k =
     ap (spot_of (length s) f) k ∙ ap (λ (x : ℕ). spot_of (length s) x (u16_at s (x + 2))) e
-
--- a vehicle identification response has 40 bytes
-pub apart_long : (kind : ℕ) (b : List ℕ) → is_apart kind b ≡ true → length b ≡ 40
-apart_long kind b e =
-    eqb-true (length b) 40 (both_left (eqb (length b) 40) (eqb (u16_at b 2) 0x0004) (both_right (eqb kind 1) (is_identity b) e))
 
 -- what is left behind a head, as a pattern takes it
 pub rest_whole : (k : ℕ) (l : List ℕ) → take (length l - k) (drop k l) ≡ drop k l

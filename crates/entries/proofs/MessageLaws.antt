@@ -10,6 +10,7 @@ use Rattle.words.specs.declared.fill.Arg.TheVariants.{Number, Address, Code, Phr
 use Rattle.words.proofs.FillLaws.{holes}
 use Rattle.words.proofs.SentenceLaws.{says, says_plain}
 use Rattle.entries.specs.Messages.{unreadable}
+use Rattle.entries.proofs.EntryLaws.{rest_long, rest_whole}
 
 pub odd_says : sentence_text (sentence 39 []) ≡ unreadable
 unfolding phrase book holes
@@ -36,12 +37,15 @@ alive-says = says_plain 33 "sent alive check request (0007)" refl refl
 pub status-says : (q n m : ℕ) → sentence_text (sentence 34 (Number q ∷ Number n ∷ Number m ∷ []))
     ≡ filled "sent entity status response (4002): places for testers %, rows open %, longest message % bytes" (decimal q ∷ decimal n ∷ decimal m ∷ [])
 unfolding phrase book
-status-says q n m = says 34 "sent entity status response (4002): places for testers %, rows open %, longest message % bytes" (Number q ∷ Number n ∷ Number m ∷ []) refl (omega arith)
+status-says q n m =
+    says 34 "sent entity status response (4002): places for testers %, rows open %, longest message % bytes" (Number q ∷ Number n ∷ Number m ∷ []) refl (omega arith)
 
 pub mode_says : (c k : ℕ) → phrase k ≡ mode_name c → sentence_text (sentence 35 (Code c ∷ Phrase k ∷ []))
     ≡ filled "sent power mode response (4004): %, %" (code c ∷ mode_name c ∷ [])
 unfolding phrase book
-mode_says c k e = says 35 "sent power mode response (4004): %, %" (Code c ∷ Phrase k ∷ []) refl (omega arith) ∙ ap (λ (x : List ℕ). filled "sent power mode response (4004): %, %" (code c ∷ x ∷ [])) e
+mode_says c k e =
+    says 35 "sent power mode response (4004): %, %" (Code c ∷ Phrase k ∷ []) refl (omega arith)
+    ∙ ap (λ (x : List ℕ). filled "sent power mode response (4004): %, %" (code c ∷ x ∷ [])) e
 
 pub diagnostic-says : (x y : ℕ) {n m : ℕ} → n ≡ m → sentence_text (sentence 36 (Address x ∷ Address y ∷ Number n ∷ []))
     ≡ filled "sent diagnostic message (8001): from controller % to tester %, user data % bytes" (address x ∷ address y ∷ decimal m ∷ [])
@@ -54,14 +58,6 @@ pub answered-says : (w c t x k : ℕ) → phrase k ≡ diagnostic_name x
     → sentence_text (sentence w (Address c ∷ Address t ∷ Code x ∷ Phrase k ∷ []))
     ≡ fill (phrase w) (address c ∷ address t ∷ code x ∷ diagnostic_name x ∷ [])
 answered-says w c t x k h = ap (λ (l : List ℕ). fill (phrase w) (address c ∷ address t ∷ code x ∷ l ∷ [])) h
-
-pub positive_phrase : phrase 37 ≡ spelled "sent diagnostic positive acknowledge (8002): from controller % to tester %, code %, %"
-unfolding phrase book
-positive_phrase = refl
-
-pub negative_phrase : phrase 38 ≡ spelled "sent diagnostic negative acknowledge (8003): from controller % to tester %, code %, %"
-unfolding phrase book
-negative_phrase = refl
 
 pub handed_says : (x y : ℕ) {n m : ℕ} → n ≡ m → sentence_text (sentence 41 (Address x ∷ Address y ∷ Number n ∷ []))
     ≡ filled "handed on: from tester % to controller %, user data % bytes" (address x ∷ address y ∷ decimal m ∷ [])
@@ -100,3 +96,24 @@ odd_kind-says k = says 43 "an entry of an unknown kind, %" (Number k ∷ []) ref
 pub odd_entry-phrase : phrase 44 ≡ spelled "    an entry that can not be read"
 unfolding phrase book
 odd_entry-phrase = refl
+
+-- what the sentences say
+pub ruleset said = (
+  odd_says,
+  nack-says,
+  activation_says,
+  alive-says,
+  status-says,
+  mode_says,
+  diagnostic-says,
+  answered-says,
+  handed_says,
+  odd_payload-says,
+  identity_says,
+  to_sender-says,
+  to_row-says,
+  closed-says,
+  odd_kind-says,
+  rest_long,
+  rest_whole,
+)

@@ -1,4 +1,6 @@
 // The lines of a call's entries.
+#![tactic(auto, using(crate::proofs::MessageLaws::said), unfolding(crate::specs::Entries::to_text, crate::specs::Entries::plain_text, crate::specs::Entries::what_text))]
+
 ghost use Rattle.std.specs.Prelude.{◌≡◌, [], ◌∷◌, ◌++◌, ◌+◌, ◌≤◌, ◌<◌, length, MatchOption};
 ghost use Rattle.octets.specs.Numbers.{u16_at};
 ghost use Rattle.words.specs.Said.{Said};

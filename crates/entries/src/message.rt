@@ -1,4 +1,6 @@
 // What is said of a message that is sent, and of a payload that is handed on.
+#![tactic(auto, using(crate::proofs::MessageLaws::said))]
+
 ghost use Rattle.std.specs.Prelude.{◌≡◌, [], ◌∷◌, length};
 ghost use Rattle.octets.specs.Numbers.{u16_at};
 ghost use Rattle.words.specs.Book.{phrase};
@@ -23,6 +25,7 @@ fn address(high: u8, low: u8) -> Arg
     Arg::Address(u16::from_be_bytes([high, low]))
 }
 
+#[tactic(auto, using(crate::proofs::MessageLaws::said), unfolding(crate::specs::Messages::nack_text))]
 fn nack(p: &[u8]) -> Sentence
     ensures { sentence_text result ≡ nack_text p.now }
 {
@@ -32,6 +35,7 @@ fn nack(p: &[u8]) -> Sentence
     }
 }
 
+#[tactic(auto, using(crate::proofs::MessageLaws::said), unfolding(crate::specs::Messages::activation_text))]
 fn activation(p: &[u8]) -> Sentence
     ensures { sentence_text result ≡ activation_text p.now }
 {
@@ -49,6 +53,7 @@ fn activation(p: &[u8]) -> Sentence
     }
 }
 
+#[tactic(auto, using(crate::proofs::MessageLaws::said), unfolding(crate::specs::Messages::alive_text))]
 fn alive_check(p: &[u8]) -> Sentence
     ensures { sentence_text result ≡ alive_text p.now }
 {
@@ -59,6 +64,7 @@ fn alive_check(p: &[u8]) -> Sentence
     }
 }
 
+#[tactic(auto, using(crate::proofs::MessageLaws::said), unfolding(crate::specs::Messages::status_text))]
 fn status(p: &[u8]) -> Sentence
     ensures { sentence_text result ≡ status_text p.now }
 {
@@ -75,6 +81,7 @@ fn status(p: &[u8]) -> Sentence
     }
 }
 
+#[tactic(auto, using(crate::proofs::MessageLaws::said), unfolding(crate::specs::Messages::mode_text))]
 fn power_mode(p: &[u8]) -> Sentence
     ensures { sentence_text result ≡ mode_text p.now }
 {
@@ -87,6 +94,7 @@ fn power_mode(p: &[u8]) -> Sentence
     }
 }
 
+#[tactic(auto, using(crate::proofs::MessageLaws::said), unfolding(crate::specs::Messages::diagnostic_text))]
 fn diagnostic(p: &[u8]) -> Sentence
     ensures { sentence_text result ≡ diagnostic_text p.now }
 {
@@ -100,6 +108,7 @@ fn diagnostic(p: &[u8]) -> Sentence
 }
 
 // The answer to a diagnostic message: the phrase says which of the two.
+#[tactic(auto, using(crate::proofs::MessageLaws::said), unfolding(crate::specs::Messages::answered_text))]
 fn answered(p: &[u8], which: usize) -> Sentence
     ensures { sentence_text result ≡ answered_text (phrase which) p.now }
 {
@@ -118,6 +127,7 @@ fn answered(p: &[u8], which: usize) -> Sentence
 }
 
 // The type says which.
+#[tactic(auto, unfolding(crate::specs::Messages::payload_text, words::specs::Book::phrase, words::specs::Book::book))]
 fn payload(kind: u16, p: &[u8]) -> Sentence
     ensures { sentence_text result ≡ payload_text kind p.now }
 {
@@ -134,6 +144,7 @@ fn payload(kind: u16, p: &[u8]) -> Sentence
     }
 }
 
+#[tactic(auto, using(crate::proofs::MessageLaws::said), unfolding(crate::specs::Messages::message_text))]
 pub fn message(b: &[u8]) -> Sentence
     ensures { sentence_text result ≡ message_text b.now }
 {
@@ -143,6 +154,7 @@ pub fn message(b: &[u8]) -> Sentence
     }
 }
 
+#[tactic(auto, using(crate::proofs::MessageLaws::said), unfolding(crate::specs::Messages::handed_text))]
 pub fn handed_on(p: &[u8]) -> Sentence
     ensures { sentence_text result ≡ handed_text p.now }
 {

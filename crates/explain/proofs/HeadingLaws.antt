@@ -91,3 +91,24 @@ pub bad_says : (n : ℕ) → sentence_text (sentence 63 (Number n ∷ []))
     ≡ filled "the file is bad at byte %: the record that begins there can not be read" (decimal n ∷ [])
 unfolding phrase book
 bad_says n = says 63 "the file is bad at byte %: the record that begins there can not be read" (Number n ∷ []) refl (omega arith)
+
+-- what the sentences say
+pub ruleset said = (
+  start_says,
+  connect-says,
+  bytes-says,
+  closed-says,
+  lost-says,
+  datagram-says,
+  tick-says,
+  controller-says,
+  done-says,
+  opened_says,
+  taken-says,
+  refused_says,
+  count-says,
+  farm-says,
+  end_says,
+  cut_says,
+  bad_says,
+)

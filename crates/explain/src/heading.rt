@@ -8,104 +8,68 @@ use day::records::Call;
 use words::fill::{Arg, Sentence, with};
 use words::{book, fill, names, put};
 
+#[tactic(auto, using(crate::proofs::HeadingLaws::said), unfolding(crate::specs::Headings::call_text))]
 fn about(call: Call) -> Sentence
     ensures { sentence_text result ≡ call_text call }
 {
     match call {
-        Call::Start => with(book::START, Arg::Blank, Arg::Blank, Arg::Blank),
-        Call::Connect(f) => with(
-            book::CONNECT,
-            Arg::Number(f.0 as usize),
-            Arg::Blank,
-            Arg::Blank,
-        ),
-        Call::Bytes(r) => with(
-            book::BYTES,
-            Arg::Number(r.0 as usize),
-            Arg::Blank,
-            Arg::Blank,
-        ),
-        Call::Closed(r) => with(
-            book::PEER_CLOSED,
-            Arg::Number(r.0 as usize),
-            Arg::Blank,
-            Arg::Blank,
-        ),
-        Call::Lost(f) => with(
-            book::LINK_LOST,
-            Arg::Number(f.0 as usize),
-            Arg::Blank,
-            Arg::Blank,
-        ),
-        Call::Tick => with(book::TICK, Arg::Blank, Arg::Blank, Arg::Blank),
-        Call::Datagram(f) => with(
-            book::DATAGRAM,
-            Arg::Number(f.0 as usize),
-            Arg::Blank,
-            Arg::Blank,
-        ),
+        Call::Start => with(book::START, &[]),
+        Call::Connect(f) => with(book::CONNECT, &[Arg::Number(f.0 as usize)]),
+        Call::Bytes(r) => with(book::BYTES, &[Arg::Number(r.0 as usize)]),
+        Call::Closed(r) => with(book::PEER_CLOSED, &[Arg::Number(r.0 as usize)]),
+        Call::Lost(f) => with(book::LINK_LOST, &[Arg::Number(f.0 as usize)]),
+        Call::Tick => with(book::TICK, &[]),
+        Call::Datagram(f) => with(book::DATAGRAM, &[Arg::Number(f.0 as usize)]),
         Call::Controller(f, c, t) => with(
             book::CONTROLLER,
-            Arg::Number(f.0 as usize),
-            Arg::Address(c),
-            Arg::Address(t),
+            &[Arg::Number(f.0 as usize), Arg::Address(c), Arg::Address(t)],
         ),
     }
 }
 
 // So many bytes were given, and so many taken.
+#[tactic(auto, using(crate::proofs::HeadingLaws::said), unfolding(crate::specs::Headings::done_text))]
 fn done(call: Call, row: u8, taken: usize, given: usize) -> Sentence
     ensures { sentence_text result ≡ done_text call row taken given }
 {
     match call {
-        Call::Start => with(book::DONE, Arg::Blank, Arg::Blank, Arg::Blank),
-        Call::Connect(_) => with(
-            book::OPENED,
-            Arg::Number(row as usize),
-            Arg::Blank,
-            Arg::Blank,
-        ),
-        Call::Bytes(_) => with(
-            book::TAKEN,
-            Arg::Number(taken),
-            Arg::Number(given),
-            Arg::Blank,
-        ),
-        Call::Closed(_) => with(book::DONE, Arg::Blank, Arg::Blank, Arg::Blank),
-        Call::Lost(_) => with(book::DONE, Arg::Blank, Arg::Blank, Arg::Blank),
-        Call::Tick => with(book::DONE, Arg::Blank, Arg::Blank, Arg::Blank),
-        Call::Datagram(_) => with(book::DONE, Arg::Blank, Arg::Blank, Arg::Blank),
-        Call::Controller(_, _, _) => with(book::DONE, Arg::Blank, Arg::Blank, Arg::Blank),
+        Call::Connect(_) => with(book::OPENED, &[Arg::Number(row as usize)]),
+        Call::Bytes(_) => with(book::TAKEN, &[Arg::Number(taken), Arg::Number(given)]),
+        _ => with(book::DONE, &[]),
     }
 }
 
+#[tactic(auto, using(crate::proofs::HeadingLaws::said), unfolding(crate::specs::Headings::refused_text))]
 fn refused(number: u8) -> Sentence
     ensures { sentence_text result ≡ refused_text number }
 {
     with(
         book::REFUSED,
-        Arg::Number(number as usize),
-        Arg::Phrase(names::refusal(number)),
-        Arg::Blank,
+        &[
+            Arg::Number(number as usize),
+            Arg::Phrase(names::refusal(number)),
+        ],
     )
 }
 
 fn answer(call: Call, number: u8, row: u8, taken: usize, given: usize) -> Sentence
     ensures { sentence_text result ≡ answer_text call number row taken given }
 {
-    if number == 0 {
-        return done(call, row, taken, given);
+    match number {
+        0 => done(call, row, taken, given),
+        _ => refused(number),
     }
-    refused(number)
 }
 
+#[tactic(auto, using(crate::proofs::HeadingLaws::said), unfolding(crate::specs::Headings::count_text))]
 fn count(n: usize) -> Sentence
     ensures { sentence_text result ≡ count_text n }
 {
-    with(book::CALL, Arg::Number(n), Arg::Blank, Arg::Blank)
+    with(book::CALL, &[Arg::Number(n)])
 }
 
-// The call with the number n in its file: its answer, and how many bytes were given to it.
+// The call with the number n in its file: its answer, and how many bytes were given to it. The answer's fields come one by one: they are
+// one in the crate lent, which stands on the table, and a heading needs none.
 pub fn put_line(
     out: &mut [u8],
     at: usize,

@@ -70,3 +70,6 @@ length-farm f taken finished lost =
 
 pub length_last_line : (e : Ending) → length (last_line e) ≤ most_last_line + 1
 length_last_line e = omega (arith, length-append (last_word e) newline, length_last e)
+
+-- what the calls of this crate need: room for each text
+pub ruleset room = (length-decimal, length-counts, length-sheet, length_last)

@@ -1,5 +1,5 @@
 // The lines that are printed for a day of recorded calls. Each function answers the place after what it put.
-#![tactic(auto)]
+#![tactic(auto, using(crate::proofs::LinesLaws::room))]
 
 ghost use Rattle.std.specs.Prelude.{◌≡◌, ◌++◌, ◌+◌, ◌*◌, ◌≤◌, length};
 ghost use Rattle.lines.specs.Text.{decimal, most_digits, Wrote};

@@ -8,22 +8,8 @@ impl Text {
     fn say_farm<R: Print + Eprint>(&mut self, rt: &R, f: usize, m: Meters) {
         self.make_room(rt);
         self.used = match self.style {
-            Style::Lines => lines::put_farm(
-                &mut self.bytes,
-                self.used,
-                f,
-                m.taken,
-                m.finished,
-                m.lost,
-            ),
-            Style::Words => explain::closing::put_farm(
-                &mut self.bytes,
-                self.used,
-                f,
-                m.taken,
-                m.finished,
-                m.lost,
-            ),
+            Style::Lines => lines::put_farm(&mut self.bytes, self.used, f, m),
+            Style::Words => explain::closing::put_farm(&mut self.bytes, self.used, f, m),
         };
     }
 

@@ -33,7 +33,7 @@ text-phrase l k e = ap (λ (t : List (List ℕ)). get_or t k []) e ∙ spelled-a
     spelled-at (s ∷ b) zero = refl
     spelled-at (s ∷ b) (suc j) = spelled-at b j
 
--- the room that `say` has for a phrase
+-- the longest phrase is no longer
 abbrev pub most_phrase : ℕ
 most_phrase = 128
 

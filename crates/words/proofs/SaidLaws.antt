@@ -5,10 +5,10 @@ use mathlib.Core.List.{List, [], ◌∷◌, ◌++◌}
 use Prim.Native.Nat.{ℕ, suc, ◌+◌, ◌≤◌, ◌<◌}
 use native.Mathlib.Numerals.{add-one}
 use native.Mathlib.Omega.{arith}
-use lib.ListN.{length, get_or, take, drop, set, length-append}
-use lib.Seq.{take-suc, length-take-le, take_at}
+use lib.ListN.{length, get_or, take, set, length-append}
+use lib.Seq.{take-suc, length-take-le}
 use Rattle.octets.specs.Put.{put_at}
-use Rattle.octets.proofs.PutLaws.{put_at-none, put_start, set_more}
+use Rattle.octets.proofs.PutLaws.{put_at-none, set_more}
 use Rattle.lines.specs.Text.{Wrote}
 use Rattle.lines.proofs.TextLaws.{wrote-more}
 use Rattle.words.specs.Said.{Said, shown_of, letters}
@@ -64,13 +64,6 @@ letters_turn bytes out out₁ at j x e h fits k =
 -- the same text in other words
 pub said-is : {t u out out₁ : List ℕ} {at r : ℕ} → t ≡ u → Said t out out₁ at r → Said u out out₁ at r
 said-is {t} {u} {out} {out₁} {at} {r} e w = subst (λ (x : List ℕ). Said x out out₁ at r) e w
-
--- what was put at the start of some room that is enough
-pub said_start : {t out out₁ : List ℕ} {r : ℕ} → Said t out out₁ 0 r → length t ≤ length out → (take r out₁ ≡ t) × (r ≤ length out₁)
-said_start {t} {out} {out₁} {r} w h =
-    let v = w.wrote (omega arith) in
-    let e : r ≡ length t = omega (arith, v.after) in
-    (ap (take r) (v.put ∙ put_start out t) ∙ take_at t (drop (length t) out) r (sym e), omega (arith, e, w.kept, h))
 
 -- no text at all
 pub said-nothing : {out : List ℕ} {at : ℕ} → Said [] out out at at

@@ -1,9 +1,11 @@
 // The phrase book: every phrase that is said, and the number of each. A % is a hole, filled in when the phrase is said.
+ghost use Rattle.std.specs.Prelude.{◌≡◌};
 ghost use Rattle.words.specs.Said.{Said};
 ghost use Rattle.words.specs.Book.{phrase, text_in};
 
 use crate::put;
 
+// A phrase goes by its number and not by an enum: `phrase` and `fill::say` take any number, and an enum has none past the last.
 // Refusals.
 pub const REFUSED_1: usize = 0;
 
@@ -208,19 +210,26 @@ static PHRASES: [&str; 64] = [
     "the file is bad at byte %: the record that begins there can not be read",
 ];
 
-// One of some phrases, or none where there are not so many.
-fn put_one(out: &mut [u8], at: usize, phrases: &[&str], k: usize) -> usize
-    ensures { Said (text_in phrases.now k) out.old out.new at result }
+// One of some texts, or an empty one where there are not so many.
+fn nth(texts: &[&'static str], k: usize) -> &'static str
+    ensures { result.now ≡ text_in texts.now k }
 {
-    match phrases.get(k) {
-        Some(words) => put::words(out, at, words.as_bytes()),
-        None => at,
+    match texts.get(k) {
+        Some(text) => text,
+        None => "",
     }
+}
+
+// The words of the phrase with this number.
+pub(crate) fn text(k: usize) -> &'static [u8]
+    ensures { result.now ≡ phrase k }
+{
+    nth(&PHRASES, k).as_bytes()
 }
 
 // The phrase with this number.
 pub fn phrase(out: &mut [u8], at: usize, k: usize) -> usize
     ensures { Said (phrase k) out.old out.new at result }
 {
-    put_one(out, at, &PHRASES, k)
+    put::words(out, at, text(k))
 }

@@ -88,7 +88,5 @@ fn fill_in(out: &mut [u8], at: usize, t: &[u8], args: &[Arg]) -> usize
 pub fn say(out: &mut [u8], at: usize, s: Sentence) -> usize
     ensures { Said (sentence_text s) out.old out.new at result }
 {
-    let mut t = [0u8; 128];
-    let n = book::phrase(&mut t, 0, s.phrase);
-    fill_in(out, at, &t[..n], &s.args)
+    fill_in(out, at, book::text(s.phrase), &s.args)
 }

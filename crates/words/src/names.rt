@@ -1,6 +1,4 @@
 // The phrases for document 01's numbers, as specs/Names.antt has them. Each function answers the phrase's number.
-#![tactic(auto, unfolding(crate::specs::Book::phrase, crate::specs::Book::book, crate::specs::Names::refusal_name, crate::specs::Names::fault_name, crate::specs::Names::activation_name, crate::specs::Names::diagnostic_name, crate::specs::Names::mode_name))]
-
 ghost use Rattle.std.specs.Prelude.{◌≡◌};
 ghost use Rattle.words.specs.Book.{phrase};
 ghost use Rattle.words.specs.Names.{refusal_name, fault_name, activation_name, diagnostic_name, mode_name};
@@ -8,6 +6,7 @@ ghost use Rattle.words.specs.Names.{refusal_name, fault_name, activation_name, d
 use crate::book;
 
 // A refusal's number.
+#[tactic(auto, unfolding(crate::specs::Book::phrase, crate::specs::Book::book, crate::specs::Names::refusal_name))]
 pub fn refusal(n: u8) -> usize
     ensures { phrase result ≡ refusal_name n }
 {
@@ -27,6 +26,7 @@ pub fn refusal(n: u8) -> usize
 }
 
 // The code of a header negative acknowledge, 0000.
+#[tactic(auto, unfolding(crate::specs::Book::phrase, crate::specs::Book::book, crate::specs::Names::fault_name))]
 pub fn fault(code: u8) -> usize
     ensures { phrase result ≡ fault_name code }
 {
@@ -40,6 +40,7 @@ pub fn fault(code: u8) -> usize
 }
 
 // The code of a routing activation response, 0006.
+#[tactic(auto, unfolding(crate::specs::Book::phrase, crate::specs::Book::book, crate::specs::Names::activation_name))]
 pub fn activation(code: u8) -> usize
     ensures { phrase result ≡ activation_name code }
 {
@@ -55,6 +56,7 @@ pub fn activation(code: u8) -> usize
 }
 
 // The code of an answer to a diagnostic message, 8002 or 8003.
+#[tactic(auto, unfolding(crate::specs::Book::phrase, crate::specs::Book::book, crate::specs::Names::diagnostic_name))]
 pub fn diagnostic(code: u8) -> usize
     ensures { phrase result ≡ diagnostic_name code }
 {
@@ -68,6 +70,7 @@ pub fn diagnostic(code: u8) -> usize
 }
 
 // The power mode, of 4004.
+#[tactic(auto, unfolding(crate::specs::Book::phrase, crate::specs::Book::book, crate::specs::Names::mode_name))]
 pub fn mode(n: u8) -> usize
     ensures { phrase result ≡ mode_name n }
 {

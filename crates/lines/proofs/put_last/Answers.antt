@@ -5,8 +5,5 @@ use Rattle.lines.proofs.TextLaws.{wrote-more}
 use Rattle.lines.proofs.LinesLaws.{length_last}
 use Rattle.lines.proofs.put_last.Goals as goal
 
-pub put_words-requires : goal.put_words-requires
-put_words-requires c = omega (arith, c.put_ending-a.ensures.after, length_last c.args.e, c.put_ending-a.auto.out, c.requires)
-
 pub returns : goal.returns
 returns c = wrote-more c.put_ending-a.ensures c.put_words.ensures (omega (arith, c.put_ending-a.ensures.after, length_last c.args.e, c.requires))

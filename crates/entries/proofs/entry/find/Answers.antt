@@ -11,9 +11,9 @@ returns-in_err-long c =
     let s = c.args.s.now in
     let f = c.in_ok-from.from in
     let there = c.in_ok-from.ensures in
-    rw c.from_residual-in_err-long.ensures
-    (no _ (le-ltb _ _ there.0)
-        (spot_short (length s) f (u16_at s (f + 2)) (omega (arith, c.in_err-long.ensures)) ∙ spot_read s (2 * c.args.i + 4) f (u16_at s (f + 2)) there.1 refl),
+    rw c.from_residual-in_err-long.ensures (
+      no _ (le-ltb _ _ there.0)
+          (spot_short (length s) f (u16_at s (f + 2)) (omega (arith, c.in_err-long.ensures)) ∙ spot_read s (2 * c.args.i + 4) f (u16_at s (f + 2)) there.1 refl),
       tt,
     )
 

@@ -1,9 +1,0 @@
--- `closing::farm` meets its contract.
--- Assumes nothing.
-use Rattle.explain.specs.Closings.{farm_text}
-use Rattle.explain.proofs.HeadingLaws.{farm-says}
-use Rattle.explain.proofs.closing.farm.Goals as goal
-
-pub returns : goal.returns
-unfolding farm_text
-returns c = farm-says _ _ _ _
