@@ -1,4 +1,4 @@
-// Big-endian numbers in lent bytes, and the one loop of the project that writes bytes.
+// Big-endian numbers in lent bytes, and the one function that puts a run of bytes into its place.
 #![tactic(auto)]
 
 ghost use Rattle.std.specs.Prelude.{◌≡◌, ◌+◌, ◌≤◌, length};
