@@ -1,7 +1,6 @@
 -- `age_rows` meets its contract.
 -- Assumes nothing.
 use mathlib.Core.Path.{sym, ◌∙◌}
-use Prim.Native.Nat.{◌-◌}
 use native.Mathlib.Omega.{arith}
 use Rattle.table.specs.Block.{farm_of}
 use Rattle.farm_tick.proofs.TickLaws.{aged-none, aged_next, aged-all}
