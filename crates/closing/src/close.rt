@@ -33,8 +33,7 @@ fn lost_at(m: Meters, place: Place) -> Meters
 {
     match place {
         Place::Header(n) => table_meters::lose(m, 0, n as u32),
-        Place::Reading(n) => table_meters::lose(m, HEAD, n),
-        Place::Skipping(n) => table_meters::lose(m, HEAD, n),
+        Place::Reading(n) | Place::Skipping(n) => table_meters::lose(m, HEAD, n),
     }
 }
 
@@ -43,10 +42,8 @@ fn lost_by(m: Meters, state: RowState, place: Place) -> Meters
     ensures { result ≡ lost_more (in_hand_by state place) m }
 {
     match state {
-        RowState::Free => table_meters::lose(m, 0, 0),
-        RowState::Fresh(_) => lost_at(m, place),
-        RowState::Waiting(_) => lost_at(m, place),
-        RowState::Active(_, _) => lost_at(m, place),
+        RowState::Free => m,
+        RowState::Fresh(_) | RowState::Waiting(_) | RowState::Active(_, _) => lost_at(m, place),
     }
 }
 
@@ -71,12 +68,7 @@ pub fn close(b: &mut [u8], p: &mut Plan, site: Site, i: usize)
 pub fn is_open(s: RowState) -> bool
     ensures { result ≡ is_open_state s }
 {
-    match s {
-        RowState::Free => false,
-        RowState::Fresh(_) => true,
-        RowState::Waiting(_) => true,
-        RowState::Active(_, _) => true,
-    }
+    !matches!(s, RowState::Free)
 }
 
 // "closes it at 200", "closes it at 30,000"
@@ -84,9 +76,8 @@ fn at_limit(s: RowState) -> bool
     ensures { result ≡ at_limit_state s }
 {
     match s {
-        RowState::Free => false,
+        RowState::Free | RowState::Waiting(_) => false,
         RowState::Fresh(age) => Clock::INITIAL <= age.ticks,
-        RowState::Waiting(_) => false,
         RowState::Active(_, idle) => Clock::GENERAL <= idle.ticks,
     }
 }

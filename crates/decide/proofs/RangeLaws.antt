@@ -5,12 +5,12 @@ use Rattle.std.specs.List.{range_with_len, find, filter, list_any, list_all}
 use mathlib.Core.Path.{◌≡◌, refl, sym, ap, ◌∙◌}
 use mathlib.Core.Bool.{Bool, true, false, cond, not, ◌&&◌, ◌||◌}
 use mathlib.Core.List.{List, [], ◌∷◌}
-use Prim.Native.Nat.{ℕ, zero, suc, ◌+◌, ◌<◌}
+use Prim.Native.Nat.{ℕ, zero, suc, ◌+◌, ◌≤◌, ◌<◌}
 use native.Mathlib.Nat.{zero-add}
 use native.Mathlib.Numerals.{add-one}
 use native.Mathlib.Omega.{arith}
-use lib.ListN.{length, get_or, drop}
-use lib.Seq.{get_or-drop}
+use lib.ListN.{length, get_or, take, drop}
+use lib.Seq.{get_or-take, get_or-drop, length-take-le}
 use Rattle.octets.specs.Choice.{pick, both, either, one}
 use Rattle.octets.specs.Fold.{up_to}
 use Rattle.octets.specs.Says.{Says}
@@ -88,6 +88,15 @@ module _ {A : Type 0} (p : A → Bool) (d : A) (l : List A) (a n : ℕ) (long : 
 
   pub all_from : list_all (λ k. p (get_or l k d)) (range_with_len a n) ≡ all p (drop a l)
   all_from = ap (λ (m : ℕ). list_all (λ k. p (get_or l k d)) (range_with_len a m)) (sym long) ∙ all_in p (λ k. p (get_or l k d)) d a (drop a l) asks
+
+-- ---- the first n places
+
+module _ {A : Type 0} (p : A → Bool) (d : A) (l : List A) (n : ℕ) (few : n ≤ length l) where
+  among : Asks p (λ k. p (get_or l k d)) d 0 (take n l)
+  among i h = ap (λ (j : ℕ). p (get_or l j d)) (zero-add i) ∙ ap p (sym (get_or-take n l i d (omega (arith, h, length-take-le n l few))))
+
+  pub found_among : find (λ k. p (get_or l k d)) (range_with_len 0 n) ≡ first_at p 0 (take n l)
+  found_among = ap (λ (m : ℕ). find (λ k. p (get_or l k d)) (range_with_len 0 m)) (sym (length-take-le n l few)) ∙ found_in p (λ k. p (get_or l k d)) d 0 (take n l) among
 
 -- ---- a test of the first n places, by a loop that counts
 

@@ -33,6 +33,7 @@ const NOT_REACHABLE: u8 = 0x06;
 const REACHABLE: u8 = 1;
 
 // What a message to this target gets.
+#[tactic(auto, unfolding(model::specs::FarmSheet::farm_sheet))]
 fn code_for(s: &[u8], f: FarmNo, target: u16) -> u8
     requires { GoodSheet s.now }
     ensures { result ≡ target_code ((farm_sheet s.now f.0).target target) }

@@ -18,6 +18,7 @@ use sheet::find;
 // "9 | controller message with 0 or over 2,044 bytes of user data"
 const MOST_USER: usize = 2044;
 
+#[tactic(auto, unfolding(model::specs::Move::most_user))]
 fn size_fits(n: usize) -> bool
     ensures { result ≡ size_fits n }
 {
@@ -25,6 +26,7 @@ fn size_fits(n: usize) -> bool
 }
 
 // "controller address not a target of that farm": one that is not reachable is a target too.
+#[tactic(auto, unfolding(model::specs::FarmSheet::farm_sheet))]
 fn is_target(s: &[u8], f: FarmNo, from: u16) -> bool
     requires { GoodSheet s.now }
     ensures { result ≡ is_target ((farm_sheet s.now f.0).target from) }

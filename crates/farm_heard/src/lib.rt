@@ -83,9 +83,7 @@ pub fn payload_long(event: Event) -> usize
     ensures { result ≡ payload_long (event_of event) }
 {
     match event {
-        Event::InputEnded => 0,
-        Event::Wrong(_) => 0,
         Event::Finished(kind, size) => stored(kind, size),
-        Event::Skipped(_) => 0,
+        Event::InputEnded | Event::Wrong(_) | Event::Skipped(_) => 0,
     }
 }

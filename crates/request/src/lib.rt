@@ -42,7 +42,9 @@ fn by_state(b: &[u8], site: Site, seat: usize, address: u16) -> Decision
 {
     match table::row::state_at(b, seat) {
         RowState::Active(a, _) => Decision::Now(again(a, address)),
-        RowState::Free | RowState::Fresh(_) | RowState::Waiting(_) => decide::socket_rules(b, site, address),
+        RowState::Free | RowState::Fresh(_) | RowState::Waiting(_) => decide::socket_rules(
+            b, site, address,
+        ),
     }
 }
 

@@ -12,6 +12,6 @@ pub returns : goal.returns
 returns c = let s = c.args in
     let w = c.put_row.ensures in
     record {
-      is = w.is ∙ ap (with_row (farm_of s.b.now) s.seat) (c.row_of.ensures ∙ ap (λ (x : Clock). row_of (Fresh x)) c.fresh-c.ensures);
+      is = w.is ∙ ap (with_row (farm_of s.b.now) s.seat) (c.row_of.ensures ∙ ap (λ (x : Clock). row_of (Fresh x)) c.fresh.ensures);
       whole = w.whole;
     }
