@@ -2,6 +2,7 @@
 #![tactic(auto)]
 
 ghost use Rattle.std.specs.Prelude.{◌≡◌, length};
+ghost use Rattle.kinds.specs.Number.{number_in};
 ghost use Rattle.sheet.specs.Rules.{GoodSheet};
 ghost use Rattle.model.specs.FarmSheet.{farm_sheet};
 ghost use Rattle.model.specs.Move.{is_target};
@@ -12,7 +13,7 @@ ghost use Rattle.site.specs.Site.{Sited};
 ghost use Rattle.farm_controller.specs.Message.{size_fits, Messaged};
 
 use closing::say;
-use kinds::{FarmNo, Reply, Site};
+use kinds::{FarmNo, Refusal, Reply, Site};
 use sheet::find;
 
 // "9 | controller message with 0 or over 2,044 bytes of user data"
@@ -21,10 +22,7 @@ const MOST_USER: usize = 2044;
 fn size_fits(n: usize) -> bool
     ensures { result ≡ size_fits n }
 {
-    if 0 < n {
-        return n <= MOST_USER;
-    }
-    false
+    0 < n && n <= MOST_USER
 }
 
 // "controller address not a target of that farm": one that is not reachable is a target too.
@@ -32,13 +30,9 @@ fn is_target(s: &[u8], f: FarmNo, from: u16) -> bool
     requires { GoodSheet s.now }
     ensures { result ≡ is_target ((farm_sheet s.now f.0).target from) }
 {
-    let Some(target) = find::find_target(s, from) else {
-        return false;
-    };
-    target.farm.0 == f.0
+    matches!(find::find_target(s, from), Some(target) if target.farm == f)
 }
 
-// The refusal's number, or 0 where it is done.
 pub fn message(
     b: &[u8],
     p: &mut [u8],
@@ -48,19 +42,17 @@ pub fn message(
     from: u16,
     to: u16,
     user: &[u8],
-) -> u8
+) -> Result<(), Refusal>
     requires { (length b.now ≡ block_size) × Sited s.now f.0 site × PlanOk p.old }
-    ensures { Messaged s.now f.0 (farm_of b.now) p.old p.new from to user.now result }
+    ensures { Messaged s.now f.0 (farm_of b.now) p.old p.new from to user.now (number_in result) }
 {
     if !size_fits(user.len()) {
-        return 9;
+        return Err(Refusal::UserUnfit);
     }
     if !is_target(s, f, from) {
-        return 10;
+        return Err(Refusal::EndsUnknown);
     }
-    let Some(seat) = decide::holder(b, to) else {
-        return 10;
-    };
+    let seat = decide::holder(b, to).ok_or(Refusal::EndsUnknown)?;
     say::say(p, site, seat, Reply::Message(from, to));
-    0
+    Ok(())
 }

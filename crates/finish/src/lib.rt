@@ -6,8 +6,9 @@ ghost use Rattle.outsheet.specs.Sheet.{sheet_of};
 ghost use Rattle.outsheet.specs.Replies.{entries_of};
 ghost use Rattle.plan.specs.Plan.{items_of};
 ghost use Rattle.outsheet.specs.Contracts.{least_output, Room, Wrote};
-ghost use Rattle.lent.specs.Served.{refusal, done};
+ghost use Rattle.lent.specs.Served.{refusal, done, answered};
 
+use kinds::Refusal;
 use lent::Answer;
 use plan::PLAN;
 
@@ -23,6 +24,16 @@ pub fn refused(n: u8) -> Answer
         row: NO_ROW,
         taken: 0,
         length: 0,
+    }
+}
+
+// What a host is answered.
+pub fn answered(call: Result<Answer, Refusal>) -> Answer
+    ensures { result ≡ answered call }
+{
+    match call {
+        Ok(done) => done,
+        Err(why) => refused(why.number()),
     }
 }
 

@@ -1,13 +1,10 @@
 -- `size_fits` meets its contract.
 -- Assumes nothing.
 use native.Mathlib.Omega.{arith}
-use borrow.Author.Tests.{le-leb, lt-leb}
+use borrow.Author.Tests.{le-leb}
 use Rattle.model.specs.Move.{most_user}
 use Rattle.farm_controller.proofs.size_fits.Goals as goal
 
 pub returns-then-n-gt0 : goal.returns-then-n-gt0
 unfolding most_user
 returns-then-n-gt0 c = simp (le-leb 1 c.args.n (omega (arith, c.if-n-gt0.true)))
-
-pub returns : goal.returns
-returns c = simp (lt-leb 1 c.args.n (omega (arith, c.if-n-gt0.false)))

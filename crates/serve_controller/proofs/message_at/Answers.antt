@@ -11,4 +11,4 @@ use Rattle.serve_controller.proofs.message_at.Goals as goal
 pub returns : goal.returns
 returns c =
     let a = c.args in
-    subst (λ (b : List ℕ). Messaged a.s.now a.f.0 (farm_of b) a.p.now c.message.new.p a.from a.to a.user.now c.message.result) (lent_is a.t.now a.f.0) c.message.ensures
+    subst (λ (b : List ℕ). Messaged a.s.now a.f.0 (farm_of b) a.p.now c.message.new.p a.from a.to a.user.now c.message.result) (lent_is _ _ _ _ c.block_of.ensures) c.message.ensures
