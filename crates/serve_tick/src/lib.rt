@@ -35,7 +35,8 @@ fn tick_farms(s: &[u8], t: &mut [u8], p: &mut [u8])
     requires { AllReady s.now t.old × Said p.old [] }
     ensures { TickedTo s.now t.old (farm_count s.now) p.new t.new }
 {
-    for i in 0..head::farm_count(s) {
+    let n = head::farm_count(s);
+    for i in 0..n {
         let f = FarmNo(i as u8);
         let site = site::site_of(s, f);
         tick_at(t, p, f, site);
