@@ -10,7 +10,7 @@ ghost use Rattle.table.specs.Block.{farm_of};
 ghost use Rattle.lent.specs.Lent.{block, lent_table};
 
 use kinds::{FarmNo, Meters};
-use table::{block_of, FARMS, TABLE};
+use table::{FARMS, TABLE, block_of};
 
 fn meters_at(t: &[u8], f: FarmNo) -> Meters
     requires { (f.0 < most_farms) × (length t.now ≡ table_size) }
@@ -22,7 +22,7 @@ fn meters_at(t: &[u8], f: FarmNo) -> Meters
 pub fn meters(t: &[u8; TABLE], f: FarmNo) -> Meters
     ensures { (s m : List ℕ) → result ≡ (slot (lent_table s t.now m) f.0).farm.meters }
 {
-    if f.0 as usize < FARMS {
+    if usize::from(f.0) < FARMS {
         return meters_at(t, f);
     }
     Meters::default()

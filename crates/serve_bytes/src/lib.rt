@@ -39,7 +39,16 @@ fn bytes_at(
 {
     let c = (octets::wide(site.first) + seat) * ROOM;
     let d = c + ROOM;
-    farm_bytes::bytes(&mut t[block_of(f)], p, &mut m[c..d], s, f, site, seat, input)
+    farm_bytes::bytes(
+        &mut t[block_of(f)],
+        p,
+        &mut m[c..d],
+        s,
+        f,
+        site,
+        seat,
+        input,
+    )
 }
 
 // The payload that is handed on is still in the row's room: the output sheet is written from there.

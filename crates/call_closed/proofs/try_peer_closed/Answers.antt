@@ -52,8 +52,7 @@ unfolding least_output
 close_row-requires c =
     let gone = gate_passes _ _ _ _ (sym c.in_ok-refusal.ensures) in
     let told : c.owner_of.result ≡ Some (c.in_ok-f.f, c.in_ok-f.k) = grind arith in
-    let seated = owner_seat _ _ _ _ (owned _ _ c.owner_of.ensures told c.wide-seat.ensures) in
-    (
+    let seated = owner_seat _ _ _ _ (owned _ _ c.owner_of.ensures told c.wide-seat.ensures) in (
       omega (arith, seated.seat_within, owned_few _ _ gone.lendable.sheet seated.farm_within),
       ready_of _ _ _ _ gone (search rules) _ seated.farm_within,
       gone.lendable.output,
