@@ -15,7 +15,8 @@ use plan::PLAN;
 // Where an answer has no row: "its row is the opened one for connect, else 255".
 pub const NO_ROW: u8 = 255;
 
-// "A refusal returns its number, output length 0, bytes taken 0, row 255."
+// "A refusal returns its number, output length 0, bytes taken 0, row 255." It takes a number and no Refusal: its promise is of each number,
+// and a narrower type would ask more.
 pub fn refused(n: u8) -> Answer
     ensures { result ≡ refusal n }
 {

@@ -10,7 +10,7 @@ ghost use Rattle.lent.specs.Lent.{block};
 use kinds::FarmNo;
 use table::block_of;
 
-// Refusal 6 is where this says no.
+// Refusal 6 is where this says no. The next asks another thing in the same line: one function told which to ask would be longer.
 pub fn is_open(t: &[u8], f: FarmNo, seat: usize) -> bool
     requires { (f.0 < most_farms) × (length t.now ≡ table_size) }
     ensures { result ≡ is_open (row_at (farm_of (block t.now f.0)).rows seat) }
