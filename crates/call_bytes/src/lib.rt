@@ -2,15 +2,14 @@
 #![tactic(auto)]
 
 ghost use Rattle.model.specs.Table.{bytes_from};
-ghost use Rattle.lent.specs.Served.{memory, CallServed};
+ghost use Rattle.lent.specs.Served.{memory, answered, CallServed};
 
-use kinds::RowNo;
+use kinds::{Refusal, RowNo};
 use lent::Answer;
 use serve::at;
 use sheet::rows;
 use table::TABLE;
 
-// Refusals "6 | row not open" and "7 | bytes for a waiting row, even none", then the bytes are taken.
 pub fn bytes(
     s: &[u8],
     t: &mut [u8; TABLE],
@@ -21,19 +20,28 @@ pub fn bytes(
 ) -> Answer
     ensures { CallServed s.now (bytes_from row.0 input.now) result (memory t.old out.old m.old) (memory t.new out.new m.new) }
 {
-    let n = gate::refusal(s, t, out, m);
-    if 0 < n {
-        return finish::refused(n);
-    }
-    let Some((f, k)) = rows::owner_of(s, row) else {
-        return finish::refused(6);
-    };
+    finish::answered(try_bytes(s, t, out, m, row, input))
+}
+
+// Refusals "6 | row not open" and "7 | bytes for a waiting row, even none", then the bytes are taken.
+fn try_bytes(
+    s: &[u8],
+    t: &mut [u8; TABLE],
+    out: &mut [u8],
+    m: &mut [u8],
+    row: RowNo,
+    input: &[u8],
+) -> Result<Answer, Refusal>
+    ensures { CallServed s.now (bytes_from row.0 input.now) (answered result) (memory t.old out.old m.old) (memory t.new out.new m.new) }
+{
+    gate::refusal(s, t, out, m)?;
+    let (f, k) = rows::owner_of(s, row).ok_or(Refusal::RowNotOpen)?;
     let seat = octets::wide(k);
     if !at::is_open(t, f, seat) {
-        return finish::refused(6);
+        return Err(Refusal::RowNotOpen);
     }
     if at::is_waiting(t, f, seat) {
-        return finish::refused(7);
+        return Err(Refusal::RowWaits);
     }
-    serve_bytes::take(s, t, out, m, f, seat, input)
+    Ok(serve_bytes::take(s, t, out, m, f, seat, input))
 }

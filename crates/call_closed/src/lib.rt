@@ -2,9 +2,9 @@
 #![tactic(auto)]
 
 ghost use Rattle.model.specs.Table.{peer_closed_on, link_lost_of};
-ghost use Rattle.lent.specs.Served.{memory, CallServed};
+ghost use Rattle.lent.specs.Served.{memory, answered, CallServed};
 
-use kinds::{FarmNo, RowNo};
+use kinds::{FarmNo, Refusal, RowNo};
 use lent::Answer;
 use serve::at;
 use sheet::{farms, rows};
@@ -14,30 +14,46 @@ use table::TABLE;
 pub fn peer_closed(s: &[u8], t: &mut [u8; TABLE], out: &mut [u8], m: &[u8], row: RowNo) -> Answer
     ensures { CallServed s.now (peer_closed_on row.0) result (memory t.old out.old m.now) (memory t.new out.new m.now) }
 {
-    let n = gate::refusal(s, t, out, m);
-    if 0 < n {
-        return finish::refused(n);
-    }
-    let Some((f, k)) = rows::owner_of(s, row) else {
-        return finish::refused(6);
-    };
+    finish::answered(try_peer_closed(s, t, out, m, row))
+}
+
+fn try_peer_closed(
+    s: &[u8],
+    t: &mut [u8; TABLE],
+    out: &mut [u8],
+    m: &[u8],
+    row: RowNo,
+) -> Result<Answer, Refusal>
+    ensures { CallServed s.now (peer_closed_on row.0) (answered result) (memory t.old out.old m.now) (memory t.new out.new m.now) }
+{
+    gate::refusal(s, t, out, m)?;
+    let (f, k) = rows::owner_of(s, row).ok_or(Refusal::RowNotOpen)?;
     let seat = octets::wide(k);
     if !at::is_open(t, f, seat) {
-        return finish::refused(6);
+        return Err(Refusal::RowNotOpen);
     }
-    serve::closed::close_row(s, t, out, f, seat)
+    Ok(serve::closed::close_row(s, t, out, f, seat))
 }
 
 // "Link lost: one close per open row, lowest first."
 pub fn link_lost(s: &[u8], t: &mut [u8; TABLE], out: &mut [u8], m: &[u8], f: FarmNo) -> Answer
     ensures { CallServed s.now (link_lost_of f.0) result (memory t.old out.old m.now) (memory t.new out.new m.now) }
 {
-    let n = gate::refusal(s, t, out, m);
-    if 0 < n {
-        return finish::refused(n);
-    }
+    finish::answered(try_link_lost(s, t, out, m, f))
+}
+
+fn try_link_lost(
+    s: &[u8],
+    t: &mut [u8; TABLE],
+    out: &mut [u8],
+    m: &[u8],
+    f: FarmNo,
+) -> Result<Answer, Refusal>
+    ensures { CallServed s.now (link_lost_of f.0) (answered result) (memory t.old out.old m.now) (memory t.new out.new m.now) }
+{
+    gate::refusal(s, t, out, m)?;
     if !farms::has_farm(s, f) {
-        return finish::refused(5);
+        return Err(Refusal::FarmUnknown);
     }
-    serve::closed::close_farm(s, t, out, f)
+    Ok(serve::closed::close_farm(s, t, out, f))
 }

@@ -2,9 +2,9 @@
 #![tactic(auto)]
 
 ghost use Rattle.model.specs.Table.{connect_to};
-ghost use Rattle.lent.specs.Served.{memory, CallServed};
+ghost use Rattle.lent.specs.Served.{memory, answered, CallServed};
 
-use kinds::FarmNo;
+use kinds::{FarmNo, Refusal};
 use lent::Answer;
 use sheet::farms;
 use table::TABLE;
@@ -12,18 +12,25 @@ use table::TABLE;
 pub fn connect(s: &[u8], t: &mut [u8; TABLE], out: &mut [u8], m: &[u8], f: FarmNo) -> Answer
     ensures { CallServed s.now (connect_to f.0) result (memory t.old out.old m.now) (memory t.new out.new m.now) }
 {
-    let n = gate::refusal(s, t, out, m);
-    if 0 < n {
-        return finish::refused(n);
-    }
+    finish::answered(try_connect(s, t, out, m, f))
+}
+
+fn try_connect(
+    s: &[u8],
+    t: &mut [u8; TABLE],
+    out: &mut [u8],
+    m: &[u8],
+    f: FarmNo,
+) -> Result<Answer, Refusal>
+    ensures { CallServed s.now (connect_to f.0) (answered result) (memory t.old out.old m.now) (memory t.new out.new m.now) }
+{
+    gate::refusal(s, t, out, m)?;
     if !farms::has_farm(s, f) {
-        return finish::refused(5);
+        return Err(Refusal::FarmUnknown);
     }
     let site = site::site_of(s, f);
     let rows = octets::wide(site.quota) + 1;
-    let Some(seat) = serve::connect::connect_at(t, f.0 as usize, rows) else {
-        return finish::refused(8);
-    };
+    let seat = serve::connect::connect_at(t, f, rows).ok_or(Refusal::NoFreeRow)?;
     let row = octets::wide(site.first) + seat;
-    finish::finish_empty(out, row as u8)
+    Ok(finish::finish_empty(out, row as u8))
 }

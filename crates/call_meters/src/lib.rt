@@ -10,27 +10,20 @@ ghost use Rattle.table.specs.Block.{farm_of};
 ghost use Rattle.lent.specs.Lent.{block, lent_table};
 
 use kinds::{FarmNo, Meters};
-use table::{BLOCK, FARMS, TABLE};
+use table::{FARMS, TABLE, block_of};
 
-fn meters_at(t: &[u8], f: usize) -> Meters
-    requires { (f < most_farms) × (length t.now ≡ table_size) }
-    ensures { result ≡ (farm_of (block t.now f)).meters }
+fn meters_at(t: &[u8], f: FarmNo) -> Meters
+    requires { (f.0 < most_farms) × (length t.now ≡ table_size) }
+    ensures { result ≡ (farm_of (block t.now f.0)).meters }
 {
-    let a = f * BLOCK;
-    let e = a + BLOCK;
-    table_meters::meters_at(&t[a..e])
+    table_meters::meters_at(&t[block_of(f)])
 }
 
 pub fn meters(t: &[u8; TABLE], f: FarmNo) -> Meters
     ensures { (s m : List ℕ) → result ≡ (slot (lent_table s t.now m) f.0).farm.meters }
 {
-    let i = f.0 as usize;
-    if i < FARMS {
-        return meters_at(t, i);
+    if usize::from(f.0) < FARMS {
+        return meters_at(t, f);
     }
-    Meters {
-        taken: 0,
-        finished: 0,
-        lost: 0,
-    }
+    Meters::default()
 }

@@ -8,7 +8,7 @@ ghost use Rattle.lent.specs.Lent.{lent_table};
 ghost use Rattle.lent.specs.Served.{memory, CallServed, StartServed};
 ghost use Rattle.dokrawin.specs.Meters.{meters_of};
 
-use kinds::{FarmNo, RowNo};
+use kinds::{FarmNo, Meters, RowNo};
 use lent::Answer;
 use table::TABLE;
 
@@ -137,14 +137,21 @@ pub struct FarmMeters {
     pub lost: u32,
 }
 
+impl From<Meters> for FarmMeters {
+    ghost from_gives = { λ m r. meters_of r ≡ m };
+
+    fn from(m: Meters) -> FarmMeters {
+        FarmMeters {
+            taken: m.taken,
+            finished: m.finished,
+            lost: m.lost,
+        }
+    }
+}
+
 #[unsafe(no_mangle)]
 pub extern "C" fn dokrawin_meters(table: &[u8; TABLE], farm: u8) -> FarmMeters
     ensures { (s m : List ℕ) → meters_of result ≡ (slot (lent_table s table.now m) farm).farm.meters }
 {
-    let m = gateway::meters(table, FarmNo(farm));
-    FarmMeters {
-        taken: m.taken,
-        finished: m.finished,
-        lost: m.lost,
-    }
+    FarmMeters::from(gateway::meters(table, FarmNo(farm)))
 }

@@ -2,6 +2,7 @@
 #![tactic(auto)]
 
 ghost use Rattle.std.specs.Prelude.{◌≡◌, length};
+ghost use Rattle.kinds.specs.Number.{number_in};
 ghost use Rattle.sheet.specs.Rules.{GoodSheet};
 ghost use Rattle.model.specs.FarmSheet.{farm_sheet};
 ghost use Rattle.model.specs.Move.{is_target};
@@ -11,7 +12,7 @@ ghost use Rattle.site.specs.Site.{Sited};
 ghost use Rattle.farm_controller.specs.Message.{size_fits, Messaged};
 
 use closing::say;
-use kinds::{FarmNo, Reply, Site};
+use kinds::{FarmNo, Refusal, Reply, Site};
 use plan::Plan;
 use sheet::find;
 
@@ -34,7 +35,6 @@ fn is_target(s: &[u8], f: FarmNo, from: u16) -> bool
     find::find_target(s, from).is_some_and(|target| target.farm == f)
 }
 
-// The refusal's number, or 0 where it is done.
 pub fn message(
     b: &[u8],
     p: &mut Plan,
@@ -44,19 +44,17 @@ pub fn message(
     from: u16,
     to: u16,
     user: &[u8],
-) -> u8
+) -> Result<(), Refusal>
     requires { (length b.now ≡ block_size) × Sited s.now f.0 site }
-    ensures { Messaged s.now f.0 (farm_of b.now) p.old p.new from to user.now result }
+    ensures { Messaged s.now f.0 (farm_of b.now) p.old p.new from to user.now (number_in result) }
 {
     if !size_fits(user.len()) {
-        return 9;
+        return Err(Refusal::UserUnfit);
     }
     if !is_target(s, f, from) {
-        return 10;
+        return Err(Refusal::EndsUnknown);
     }
-    let Some(seat) = decide::holder(b, to) else {
-        return 10;
-    };
+    let seat = decide::holder(b, to).ok_or(Refusal::EndsUnknown)?;
     say::say(p, site, seat, Reply::Message(from, to));
-    0
+    Ok(())
 }

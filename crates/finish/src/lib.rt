@@ -5,15 +5,17 @@ ghost use Rattle.std.specs.Prelude.{◌≡◌, [], ◌≤◌, length};
 ghost use Rattle.outsheet.specs.Sheet.{sheet_of};
 ghost use Rattle.outsheet.specs.Replies.{entries_of};
 ghost use Rattle.outsheet.specs.Contracts.{least_output, Room, Wrote};
-ghost use Rattle.lent.specs.Served.{refusal, done};
+ghost use Rattle.lent.specs.Served.{refusal, done, answered};
 
+use kinds::Refusal;
 use lent::Answer;
 use plan::Plan;
 
 // Where an answer has no row: "its row is the opened one for connect, else 255".
 pub const NO_ROW: u8 = 255;
 
-// "A refusal returns its number, output length 0, bytes taken 0, row 255."
+// "A refusal returns its number, output length 0, bytes taken 0, row 255." It takes a number and no Refusal: its promise is of each number,
+// and a narrower type would ask more.
 pub fn refused(n: u8) -> Answer
     ensures { result ≡ refusal n }
 {
@@ -22,6 +24,16 @@ pub fn refused(n: u8) -> Answer
         row: NO_ROW,
         taken: 0,
         length: 0,
+    }
+}
+
+// What a host is answered.
+pub fn answered(call: Result<Answer, Refusal>) -> Answer
+    ensures { result ≡ answered call }
+{
+    match call {
+        Ok(done) => done,
+        Err(why) => refused(why.number()),
     }
 }
 

@@ -1,1 +1,2 @@
 pub mod Clock
+pub mod Number

@@ -3,6 +3,7 @@
 
 ghost use Rattle.std.specs.Prelude.{◌≡◌};
 ghost use Rattle.kinds.specs.Clock.{clock_of, stepped};
+ghost use Rattle.kinds.specs.Number.{refusal_number};
 
 // A row over the whole sheet, 0 to 15 (255 where an entry belongs to none), and a farm, 0 to 3: two kinds, so that a row can't
 // index the farms.
@@ -84,7 +85,7 @@ pub struct Row {
 }
 
 // "three meters", each wrapping on purpose.
-#[derive(Clone, Copy)]
+#[derive(Clone, Copy, Default)]
 pub struct Meters {
     pub taken: u32,
     pub finished: u32,
@@ -165,4 +166,27 @@ pub struct Item {
     pub row: RowNo,
     pub version: u8,
     pub reply: Reply,
+}
+
+// Why a call is refused. As a number it is document 01's.
+#[derive(Clone, Copy, PartialEq, Eq)]
+pub enum Refusal {
+    SheetBroken = 1,
+    OutputShort = 2,
+    AssemblingWrong = 3,
+    TableBroken = 4,
+    FarmUnknown = 5,
+    RowNotOpen = 6,
+    RowWaits = 7,
+    NoFreeRow = 8,
+    UserUnfit = 9,
+    EndsUnknown = 10,
+}
+
+impl Refusal {
+    pub fn number(self) -> u8
+        ensures { result ≡ refusal_number self }
+    {
+        self as u8
+    }
 }

@@ -17,36 +17,6 @@ use Rattle.table.proofs.BlockLaws.{exact, zero_new}
 use Rattle.lent.specs.Lent.{block, whole_table, held_at, slots_from, lent_table}
 use Rattle.lent.proofs.BytesLaws.{Exact, whole_exact}
 
--- ---- making them, one after the other
-
-pub record Zeros (t : List ℕ) (i n : ℕ) : Type 0 where
-  pub long : length t ≡ n
-  pub within : i ≤ n
-  pub so : take i t ≡ replicate i 0
-
-pub zeros_none : (t : List ℕ) → Zeros t 0 (length t)
-zeros_none t = record { long = refl; within = omega arith; so = refl }
-
-pub zeros_more : (t : List ℕ) (i n : ℕ) → Zeros t i n → i < n → Zeros (set t i 0) (i + 1) n
-zeros_more t i n z h =
-    let e : suc i ≡ i + 1 = omega arith in
-    record {
-      long = length-set t i 0 ∙ z.long;
-      within = omega (arith, h);
-      so =
-          ap (λ (k : ℕ). take k (set t i 0)) (sym e)
-          ∙ take-suc-set t i 0 (omega (arith, h, z.long))
-          ∙ ap (λ (l : List ℕ). l ++ (0 ∷ [])) z.so
-          ∙ replicate-append-replicate i 1 0;
-    }
-
-pub zeros_all : (t : List ℕ) (i n : ℕ) → Zeros t i n → n ≤ i → t ≡ replicate n 0
-zeros_all t i n z h =
-    let e : i ≡ n = omega (arith, z.within, h) in
-    sym (take_all n t (omega (arith, z.long))) ∙ ap (λ (k : ℕ). take k t) (sym e) ∙ z.so ∙ ap (λ (k : ℕ). replicate k 0) e
-
--- ---- what they mean
-
 zero-block : (f : ℕ) → f < most_farms → block (replicate table_size 0) f ≡ replicate block_size 0
 zero-block f h =
     let l : length {A = ℕ} (replicate table_size 0) ≡ table_size = length-replicate {A = ℕ} table_size 0 in

@@ -1,6 +1,8 @@
 -- What a public call gives back: its answer, and every byte of the lent memory afterwards.
 -- Assumes nothing: these are definitions.
-use Rattle.std.specs.Prelude.{ℕ, ◌≡◌, Bool, true, List, ◌++◌, length, drop}
+use Rattle.std.specs.Prelude.{ℕ, ◌≡◌, Bool, true, List, ◌++◌, length, drop, Result, Ok, Err}
+use Rattle.kinds.specs.declared.Refusal.{Refusal}
+use Rattle.kinds.specs.Number.{refusal_number}
 use Rattle.octets.specs.Put.{put_at}
 use Rattle.outsheet.specs.Sheet.{sheet_of}
 use Rattle.outsheet.specs.Replies.{entries_of}
@@ -15,6 +17,11 @@ refusal n = record { number = n; row = no_row; taken = 0; length = 0 }
 
 abbrev pub done : ℕ → ℕ → ℕ → Answer
 done row taken length = record { number = 0; row = row; taken = taken; length = length }
+
+-- what a host is answered: a refusal is its number
+abbrev pub answered : Result Answer Refusal → Answer
+answered (Ok a) = a
+answered (Err why) = refusal (refusal_number why)
 
 -- the output sheet of a call
 abbrev pub sheet_bytes : Did → List ℕ

@@ -36,10 +36,9 @@ use Rattle.room.proofs.Long.{answers_few, longs_few}
 use Rattle.farm_controller.specs.Message.{number_by, message_move, Messaged}
 use Rattle.lent.specs.declared.Answer.{Answer}
 use Rattle.lent.specs.Lent.{block, held_at, lent_table, lent_step}
-use Rattle.lent.specs.Gate.{gate_number, Passed}
+use Rattle.lent.specs.Gate.{Passed}
 use Rattle.lent.specs.Served.{refusal, done, memory, Served}
 use Rattle.lent.proofs.LentLaws.{slot_is}
-use Rattle.lent.proofs.GateLaws.{gate_passes}
 use Rattle.lent.proofs.CallLaws.{refused_as}
 use Rattle.lent.proofs.ServedLaws.{Left, served-did}
 use Rattle.serve.specs.Ready.{Ready}
@@ -138,10 +137,6 @@ module _ {s : List ℕ} {f : ℕ} {farm : Farm} {p plan : List Item} {from to : 
       by (gave g) h y i e = record { answer = d; wrote = wrote-items user (planned (gave g) h z y i none e).0 w }
 
 -- ---- the calls
-
--- refusals 1 to 4 are past, as the code tests it
-pub went_on : {s t out m : List ℕ} {n : ℕ} → n ≡ gate_number s t out m → n ≤ 0 → Passed s t out m
-went_on {s} {t} {out} {m} e h = gate_passes s t out m (omega (arith, e, h))
 
 module _ (s t out m : List ℕ) (p : Passed s t out m) (long : length t ≡ table_size) (f : ℕ) (has : f < farm_count s) where
   -- what a call has done that leaves the table

@@ -35,6 +35,10 @@ use Rattle.lent.proofs.ServedLaws.{Left, served-did}
 use Rattle.serve.specs.Ready.{Ready, AllReady}
 use Rattle.serve.specs.Moved.{Moved}
 
+-- whose row it is, as the code has asked
+pub owned : (s : List ℕ) (row : ℕ) {o : Option (FarmNo × ℕ)} {f : FarmNo} {k seat : ℕ} → o ≡ owner_of s row → o ≡ Some (f, k) → seat ≡ k → owner_of s row ≡ Some (f, seat)
+owned s row {f = f} is told e = sym is ∙ told ∙ ap (λ (j : ℕ). Some (f, j)) (sym e)
+
 module _ (s t out m : List ℕ) (p : Passed s t out m) (long : length t ≡ table_size) where
   -- ---- what a call knows of its farm
 

@@ -8,16 +8,14 @@ ghost use Rattle.table.specs.Block.{farm_of};
 ghost use Rattle.lent.specs.Lent.{block};
 
 use kinds::FarmNo;
-use table::BLOCK;
+use table::block_of;
 
-// Refusal 6 is where this says no.
+// Refusal 6 is where this says no. The next asks another thing in the same line: one function told which to ask would be longer.
 pub fn is_open(t: &[u8], f: FarmNo, seat: usize) -> bool
     requires { (f.0 < most_farms) × (length t.now ≡ table_size) }
     ensures { result ≡ is_open (row_at (farm_of (block t.now f.0)).rows seat) }
 {
-    let a = (f.0 as usize) * BLOCK;
-    let e = a + BLOCK;
-    farm_ask::is_open(&t[a..e], seat)
+    farm_ask::is_open(&t[block_of(f)], seat)
 }
 
 // Refusal 7, of an open row, is where this says yes.
@@ -25,9 +23,7 @@ pub fn is_waiting(t: &[u8], f: FarmNo, seat: usize) -> bool
     requires { (f.0 < most_farms) × (length t.now ≡ table_size) }
     ensures { result ≡ is_waiting (row_at (farm_of (block t.now f.0)).rows seat) }
 {
-    let a = (f.0 as usize) * BLOCK;
-    let e = a + BLOCK;
-    farm_ask::is_waiting(&t[a..e], seat)
+    farm_ask::is_waiting(&t[block_of(f)], seat)
 }
 
 // "open rows of the farm"
@@ -35,7 +31,5 @@ pub fn open_rows(t: &[u8], f: FarmNo) -> usize
     requires { (f.0 < most_farms) × (length t.now ≡ table_size) }
     ensures { result ≡ open_rows (farm_of (block t.now f.0)) }
 {
-    let a = (f.0 as usize) * BLOCK;
-    let e = a + BLOCK;
-    farm_ask::open_rows(&t[a..e])
+    farm_ask::open_rows(&t[block_of(f)])
 }

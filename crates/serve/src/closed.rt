@@ -15,25 +15,21 @@ ghost use Rattle.serve.specs.Moved.{DidAt, Moved};
 use kinds::{FarmNo, Site};
 use lent::Answer;
 use plan::Plan;
-use table::BLOCK;
+use table::block_of;
 
 // The farm's block is lent alone.
-fn peer_closed_at(t: &mut [u8], p: &mut Plan, f: usize, site: Site, seat: usize)
-    requires { (f < most_farms) × (length t.old ≡ table_size) × (seat < seats) × Seated (farm_of (block t.old f)).line × RowsFit site × Whole (block t.old f) }
-    ensures { DidAt f (peer_gone (site_sheet site) seat (farm_of (block t.old f))) p.old t.old p.new t.new }
+fn peer_closed_at(t: &mut [u8], p: &mut Plan, f: FarmNo, site: Site, seat: usize)
+    requires { (f.0 < most_farms) × (length t.old ≡ table_size) × (seat < seats) × Seated (farm_of (block t.old f.0)).line × RowsFit site × Whole (block t.old f.0) }
+    ensures { DidAt f.0 (peer_gone (site_sheet site) seat (farm_of (block t.old f.0))) p.old t.old p.new t.new }
 {
-    let a = f * BLOCK;
-    let e = a + BLOCK;
-    farm::closed::peer_closed(&mut t[a..e], p, site, seat);
+    farm::closed::peer_closed(&mut t[block_of(f)], p, site, seat);
 }
 
-fn link_lost_at(t: &mut [u8], p: &mut Plan, f: usize, site: Site)
-    requires { (f < most_farms) × (length t.old ≡ table_size) × RowsFit site × Whole (block t.old f) }
-    ensures { DidAt f (link_gone (site_sheet site) (farm_of (block t.old f))) p.old t.old p.new t.new }
+fn link_lost_at(t: &mut [u8], p: &mut Plan, f: FarmNo, site: Site)
+    requires { (f.0 < most_farms) × (length t.old ≡ table_size) × RowsFit site × Whole (block t.old f.0) }
+    ensures { DidAt f.0 (link_gone (site_sheet site) (farm_of (block t.old f.0))) p.old t.old p.new t.new }
 {
-    let a = f * BLOCK;
-    let e = a + BLOCK;
-    farm::closed::link_lost(&mut t[a..e], p, site);
+    farm::closed::link_lost(&mut t[block_of(f)], p, site);
 }
 
 pub fn close_row(s: &[u8], t: &mut [u8], out: &mut [u8], f: FarmNo, seat: usize) -> Answer
@@ -42,7 +38,7 @@ pub fn close_row(s: &[u8], t: &mut [u8], out: &mut [u8], f: FarmNo, seat: usize)
 {
     let site = site::site_of(s, f);
     let mut p = Plan::new();
-    peer_closed_at(t, &mut p, f.0 as usize, site, seat);
+    peer_closed_at(t, &mut p, f, site, seat);
     finish::finish_short(out, &p, finish::NO_ROW)
 }
 
@@ -52,6 +48,6 @@ pub fn close_farm(s: &[u8], t: &mut [u8], out: &mut [u8], f: FarmNo) -> Answer
 {
     let site = site::site_of(s, f);
     let mut p = Plan::new();
-    link_lost_at(t, &mut p, f.0 as usize, site);
+    link_lost_at(t, &mut p, f, site);
     finish::finish_short(out, &p, finish::NO_ROW)
 }

@@ -6,14 +6,13 @@ ghost use Rattle.table.specs.Block.{Whole};
 ghost use Rattle.lent.specs.Lent.{block};
 ghost use Rattle.serve.specs.Moved.{ConnectedAt};
 
-use table::BLOCK;
+use kinds::FarmNo;
+use table::block_of;
 
 // The farm's block is lent alone.
-pub fn connect_at(t: &mut [u8], f: usize, rows: usize) -> Option<usize>
-    requires { (f < most_farms) × (length t.old ≡ table_size) × (rows ≤ seats) × Whole (block t.old f) }
-    ensures { ConnectedAt f rows t.old t.new result }
+pub fn connect_at(t: &mut [u8], f: FarmNo, rows: usize) -> Option<usize>
+    requires { (f.0 < most_farms) × (length t.old ≡ table_size) × (rows ≤ seats) × Whole (block t.old f.0) }
+    ensures { ConnectedAt f.0 rows t.old t.new result }
 {
-    let a = f * BLOCK;
-    let e = a + BLOCK;
-    farm::connect::connect(&mut t[a..e], rows)
+    farm::connect::connect(&mut t[block_of(f)], rows)
 }

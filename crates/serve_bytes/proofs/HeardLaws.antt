@@ -24,7 +24,7 @@ use Rattle.model.specs.Bytes.{taken_by, payload_by}
 use Rattle.model.specs.Move.{no_row}
 use Rattle.model.specs.Table.{assembling_size}
 use Rattle.model.proofs.RuleKept.{farm-ok}
-use Rattle.table.specs.Layout.{seats, block_size}
+use Rattle.table.specs.Layout.{seats}
 use Rattle.table.specs.Block.{farm_of}
 use Rattle.site.specs.Site.{site_of, Sited}
 use Rattle.farm_bytes.specs.declared.Heard.{Heard}
@@ -34,11 +34,10 @@ use Rattle.room.proofs.Long.{bytes_one}
 use Rattle.lent.specs.declared.Answer.{Answer}
 use Rattle.lent.specs.Lent.{block, room_size}
 use Rattle.lent.specs.Served.{done}
-use Rattle.lent.proofs.MoveLaws.{lent_back}
 use Rattle.serve.specs.Ready.{Ready}
 use Rattle.serve_bytes.specs.Heard.{room_at, room, heard_taken, heard_done, OnlyRoom, HeardAt, HeardOut}
 use Rattle.finish.proofs.AnswerLaws.{wrote-items}
-use Rattle.serve.proofs.BlockLaws.{lent_block, given_back, lent_is}
+use Rattle.serve.proofs.BlockLaws.{Ends, lent_block, given_back, lent_is, back_is}
 use Rattle.serve.proofs.MovedLaws.{ready_below, said-items, small-room}
 
 -- ---- where the room is
@@ -99,30 +98,30 @@ module _ {s m left : List ℕ} {f seat : ℕ} (only : OnlyRoom s f seat m left) 
   only_full = length_part left (room_at s f seat) room_size (omega (arith, fits, only-long))
 
 -- a function was lent the block and the room, and left b and r there
-module _ (s t m : List ℕ) {f : ℕ} (ready : Ready s t f) {seat : ℕ} (mine : seat < rows_owned s f) (wide : length m ≡ assembling_size) (input : List ℕ) (p : List Item) (b : List ℕ) (plan : List Item) (r : List ℕ) (h : Heard) (full : length r ≡ room_size) where
-  heard-first : BytesDid h (farm_sheet s f) seat (taken_by seat (lent_room m (first_row s f + seat)) input (farm_of (lent_block t f))) (farm_of (lent_block t f)) p b plan r
-      → HeardAt s f seat input p t m plan (given_back t f b) (room_back m (first_row s f + seat) r) h
+module _ (s t m : List ℕ) {f : ℕ} (ready : Ready s t f) {seat : ℕ} (mine : seat < rows_owned s f) (wide : length m ≡ assembling_size) (input : List ℕ) (p : List Item) (b : List ℕ) (plan : List Item) (r : List ℕ) (h : Heard) (full : length r ≡ room_size) (a e : ℕ) (ends : Ends f a e) where
+  heard-first : BytesDid h (farm_sheet s f) seat (taken_by seat (lent_room m (first_row s f + seat)) input (farm_of (lent_block t a e))) (farm_of (lent_block t a e)) p b plan r
+      → HeardAt s f seat input p t m plan (given_back t a e b) (room_back m (first_row s f + seat) r) h
   heard-first d =
-      let block_back = lent_back t b f (f * block_size + block_size) ready.long (ready_below ready) refl d.did.whole.long in
+      let block_back = back_is t b f a e ends ready.long (ready_below ready) d.did.whole.long in
       let back = room_back_lem s m r f seat (room_within ready mine m wide) full in
       record {
         only = block_back.1;
         only_room = back.1;
         did =
-            subst (λ (x : List ℕ). BytesDid h (farm_sheet s f) seat (heard_taken s f seat input t m) (farm_of (block t f)) p (block (given_back t f b) f) plan x) (sym back.0)
+            subst (λ (x : List ℕ). BytesDid h (farm_sheet s f) seat (heard_taken s f seat input t m) (farm_of (block t f)) p (block (given_back t a e b) f) plan x) (sym back.0)
             (subst (λ (x : List ℕ). BytesDid h (farm_sheet s f) seat (heard_taken s f seat input t m) (farm_of (block t f)) p x plan r) (sym block_back.0)
             (subst (λ (x : List ℕ). BytesDid h (farm_sheet s f) seat (taken_by seat x input (farm_of (block t f))) (farm_of (block t f)) p b plan r) (lent-room m (first_row s f + seat))
-            (subst (λ (x : List ℕ). BytesDid h (farm_sheet s f) seat (taken_by seat (lent_room m (first_row s f + seat)) input (farm_of x)) (farm_of x) p b plan r) (lent_is t f) d)));
+            (subst (λ (x : List ℕ). BytesDid h (farm_sheet s f) seat (taken_by seat (lent_room m (first_row s f + seat)) input (farm_of x)) (farm_of x) p b plan r) (lent_is t f a e ends) d)));
       }
 
   pub heard-lent : {first : ℕ} → first ≡ first_row s f
-      → BytesDid h (farm_sheet s f) seat (taken_by seat (lent_room m (first + seat)) input (farm_of (lent_block t f))) (farm_of (lent_block t f)) p b plan r
-      → HeardAt s f seat input p t m plan (given_back t f b) (room_back m (first + seat) r) h
-  heard-lent e =
+      → BytesDid h (farm_sheet s f) seat (taken_by seat (lent_room m (first + seat)) input (farm_of (lent_block t a e))) (farm_of (lent_block t a e)) p b plan r
+      → HeardAt s f seat input p t m plan (given_back t a e b) (room_back m (first + seat) r) h
+  heard-lent k =
       subst
-      (λ (x : ℕ). BytesDid h (farm_sheet s f) seat (taken_by seat (lent_room m (x + seat)) input (farm_of (lent_block t f))) (farm_of (lent_block t f)) p b plan r
-      → HeardAt s f seat input p t m plan (given_back t f b) (room_back m (x + seat) r) h)
-      (sym e) heard-first
+      (λ (x : ℕ). BytesDid h (farm_sheet s f) seat (taken_by seat (lent_room m (x + seat)) input (farm_of (lent_block t a e))) (farm_of (lent_block t a e)) p b plan r
+      → HeardAt s f seat input p t m plan (given_back t a e b) (room_back m (x + seat) r) h)
+      (sym k) heard-first
 
 -- ---- the output sheet
 

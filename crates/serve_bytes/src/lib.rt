@@ -17,7 +17,7 @@ use kinds::{FarmNo, Site};
 use lent::Answer;
 use plan::Plan;
 use sheet::rows;
-use table::BLOCK;
+use table::block_of;
 
 // "2,048 for each of 16 rows"
 const ROOM: usize = 2048;
@@ -36,11 +36,18 @@ fn bytes_at(
     requires { Ready s.now t.old f.0 × Sited s.now f.0 site × (seat < rows_owned s.now f.0) × (is_waiting (row_at (farm_of (block t.old f.0)).rows seat) ≡ false) × (length m.old ≡ assembling_size) }
     ensures { HeardAt s.now f.0 seat input.now p.old t.old m.old p.new t.new m.new result }
 {
-    let a = (f.0 as usize) * BLOCK;
-    let e = a + BLOCK;
     let c = (octets::wide(site.first) + seat) * ROOM;
     let d = c + ROOM;
-    farm_bytes::bytes(&mut t[a..e], p, &mut m[c..d], s, f, site, seat, input)
+    farm_bytes::bytes(
+        &mut t[block_of(f)],
+        p,
+        &mut m[c..d],
+        s,
+        f,
+        site,
+        seat,
+        input,
+    )
 }
 
 // The payload that is handed on is still in the row's room: the output sheet is written from there.

@@ -2,6 +2,7 @@
 #![tactic(auto)]
 
 ghost use Rattle.std.specs.Prelude.{◌≡◌, ◌<◌, ◌≤◌, length};
+ghost use Rattle.kinds.specs.Number.{number_in};
 ghost use Rattle.sheet.specs.Sheet.{most_farms};
 ghost use Rattle.outsheet.specs.Contracts.{least_output};
 ghost use Rattle.table.specs.Layout.{table_size};
@@ -9,13 +10,14 @@ ghost use Rattle.table.specs.Block.{farm_of};
 ghost use Rattle.site.specs.Site.{Sited};
 ghost use Rattle.farm_controller.specs.Message.{Messaged};
 ghost use Rattle.lent.specs.Lent.{block};
+ghost use Rattle.lent.specs.Served.{answered};
 ghost use Rattle.serve.specs.Ready.{Ready};
 ghost use Rattle.serve.specs.Moved.{MessageOut};
 
-use kinds::{FarmNo, Site};
+use kinds::{FarmNo, Refusal, Site};
 use lent::Answer;
 use plan::Plan;
-use table::BLOCK;
+use table::block_of;
 
 // The farm's block is lent alone.
 fn message_at(
@@ -27,13 +29,11 @@ fn message_at(
     from: u16,
     to: u16,
     user: &[u8],
-) -> u8
+) -> Result<(), Refusal>
     requires { (f.0 < most_farms) × (length t.now ≡ table_size) × Sited s.now f.0 site }
-    ensures { Messaged s.now f.0 (farm_of (block t.now f.0)) p.old p.new from to user.now result }
+    ensures { Messaged s.now f.0 (farm_of (block t.now f.0)) p.old p.new from to user.now (number_in result) }
 {
-    let a = (f.0 as usize) * BLOCK;
-    let e = a + BLOCK;
-    farm_controller::message(&t[a..e], p, s, f, site, from, to, user)
+    farm_controller::message(&t[block_of(f)], p, s, f, site, from, to, user)
 }
 
 // Refusals 9 and 10, else the message goes out.
@@ -45,15 +45,12 @@ pub fn send(
     from: u16,
     to: u16,
     user: &[u8],
-) -> Answer
+) -> Result<Answer, Refusal>
     requires { Ready s.now t.now f.0 × (least_output ≤ length out.old) }
-    ensures { MessageOut s.now f.0 (farm_of (block t.now f.0)) from to user.now out.old out.new result }
+    ensures { MessageOut s.now f.0 (farm_of (block t.now f.0)) from to user.now out.old out.new (answered result) }
 {
     let site = site::site_of(s, f);
     let mut p = Plan::new();
-    let n = message_at(t, &mut p, s, f, site, from, to, user);
-    if 0 < n {
-        return finish::refused(n);
-    }
-    finish::finish(out, &p, user, finish::NO_ROW, 0)
+    message_at(t, &mut p, s, f, site, from, to, user)?;
+    Ok(finish::finish(out, &p, user, finish::NO_ROW, 0))
 }

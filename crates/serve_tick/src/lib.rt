@@ -19,16 +19,14 @@ use kinds::{FarmNo, Site};
 use lent::Answer;
 use plan::Plan;
 use sheet::head;
-use table::BLOCK;
+use table::block_of;
 
 // The farm's block is lent alone.
-fn tick_at(t: &mut [u8], p: &mut Plan, f: usize, site: Site)
-    requires { (f < most_farms) × (length t.old ≡ table_size) × Seated (farm_of (block t.old f)).line × RowsFit site × Whole (block t.old f) }
-    ensures { DidAt f (ticked (site_sheet site) (farm_of (block t.old f))) p.old t.old p.new t.new }
+fn tick_at(t: &mut [u8], p: &mut Plan, f: FarmNo, site: Site)
+    requires { (f.0 < most_farms) × (length t.old ≡ table_size) × Seated (farm_of (block t.old f.0)).line × RowsFit site × Whole (block t.old f.0) }
+    ensures { DidAt f.0 (ticked (site_sheet site) (farm_of (block t.old f.0))) p.old t.old p.new t.new }
 {
-    let a = f * BLOCK;
-    let e = a + BLOCK;
-    farm_tick::tick(&mut t[a..e], p, site);
+    farm_tick::tick(&mut t[block_of(f)], p, site);
 }
 
 // The farms of the sheet, one after the other.
@@ -37,11 +35,10 @@ fn tick_farms(s: &[u8], t: &mut [u8], p: &mut Plan)
     ensures { TickedTo s.now t.old (farm_count s.now) p.new t.new }
 {
     let n = head::farm_count(s);
-    let mut i: usize = 0;
-    while i < n {
-        let site = site::site_of(s, FarmNo(i as u8));
-        tick_at(t, p, i, site);
-        i += 1;
+    for i in 0..n {
+        let f = FarmNo(i as u8);
+        let site = site::site_of(s, f);
+        tick_at(t, p, f, site);
     }
 }
 

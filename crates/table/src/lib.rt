@@ -2,11 +2,17 @@
 // table_line and table_whole know a place of it.
 #![tactic(auto)]
 
+ghost use Rattle.std.specs.Prelude.{◌≡◌, ◌<◌, ◌+◌, ◌*◌};
+ghost use Rattle.sheet.specs.Sheet.{most_farms};
+ghost use Rattle.table.specs.Layout.{block_size};
+
 pub mod clock; // clock.rt: the check clock
 pub mod marks; // marks.rt: who answered
 pub mod row; // row.rt: the rows
 
+use kinds::FarmNo;
 use rowbytes::ROW;
+use std::ops::Range;
 
 // Where things stand, as specs/Layout.antt has it. A farm's functions are lent BLOCK bytes.
 pub const SEATS: usize = 9;
@@ -29,3 +35,12 @@ pub const CLOCK: usize = 22;
 pub const MARKS: usize = 24;
 
 pub const ROWS: usize = 33;
+
+// Where a farm's block stands in the table: what serves the farm is lent these bytes alone.
+pub fn block_of(f: FarmNo) -> Range<usize>
+    requires { f.0 < most_farms }
+    ensures { (result.start ≡ f.0 * block_size) × (result.end ≡ f.0 * block_size + block_size) }
+{
+    let a = f.0 as usize * BLOCK;
+    a..a + BLOCK
+}

@@ -1,12 +1,15 @@
 -- `meters` meets its contract.
 -- Assumes nothing.
-use mathlib.Core.Path.{◌∙◌}
+use Rattle.std.proofs.Common.{rules}
+use mathlib.Core.Path.{◌≡◌, ◌∙◌}
 use native.Mathlib.Omega.{arith}
+use Rattle.kinds.specs.declared.Meters.{Meters}
 use Rattle.call_meters.proofs.MeterLaws.{slot-meters, no_meters}
 use Rattle.call_meters.proofs.meters.Goals as goal
 
-pub returns-then-i-lt-FARMS : goal.returns-then-i-lt-FARMS
-returns-then-i-lt-FARMS c = λ s m. c.meters_at.ensures ∙ slot-meters s _ m _ (omega arith)
+pub returns-then-from-lt-FARMS : goal.returns-then-from-lt-FARMS
+returns-then-from-lt-FARMS c = λ s m. c.meters_at.ensures ∙ slot-meters s _ m _ (omega arith)
 
 pub returns : goal.returns
-returns c = λ s m. no_meters s _ m _ (omega arith)
+returns c = let none : c.default.result ≡ record { taken = 0; finished = 0; lost = 0 } = search rules in
+    λ s m. none ∙ no_meters s c.args.t.now m c.args.f.0 (omega arith)

@@ -8,4 +8,4 @@ use Rattle.serve.proofs.BlockLaws.{lent_is}
 use Rattle.call_meters.proofs.meters_at.Goals as goal
 
 pub returns : goal.returns
-returns c = c.meters_at.ensures ∙ ap (λ (b : List ℕ). (farm_of b).meters) (lent_is c.args.t.now c.args.f)
+returns c = c.meters_at.ensures ∙ ap (λ (b : List ℕ). (farm_of b).meters) (lent_is _ _ _ _ c.block_of.ensures)

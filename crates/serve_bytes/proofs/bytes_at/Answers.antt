@@ -32,7 +32,7 @@ unfolding assembling_size
 slice_bounds-bytes-end-2 c = omega (arith, row_few c.requires.0 c.requires.2 (first-is c.requires.1 c.wide.ensures), c.requires.4)
 
 pub bytes-requires : goal.bytes-requires
-bytes-requires c = let back : block c.args.t.now c.args.f.0 ≡ lent_block c.args.t.now c.args.f.0 = sym (lent_is c.args.t.now c.args.f.0) in (
+bytes-requires c = let back : block c.args.t.now c.args.f.0 ≡ lent_block c.args.t.now c.block_of.result.start c.block_of.result.end = sym (lent_is _ _ _ _ c.block_of.ensures) in (
   seat_few c.requires.0 c.requires.2,
   lent_full c.args.m.now _ (row_few c.requires.0 c.requires.2 (first-is c.requires.1 c.wide.ensures)) c.requires.4,
   c.requires.1,
@@ -43,4 +43,4 @@ bytes-requires c = let back : block c.args.t.now c.args.f.0 ≡ lent_block c.arg
 
 pub returns : goal.returns
 returns c = let full : length c.bytes.new.room ≡ most_payload = search rules in
-    heard-lent _ _ c.args.m.now c.requires.0 c.requires.2 c.requires.4 _ _ _ _ _ _ full (first-is c.requires.1 c.wide.ensures) c.bytes.ensures
+    heard-lent _ _ c.args.m.now c.requires.0 c.requires.2 c.requires.4 _ _ _ _ _ _ full _ _ c.block_of.ensures (first-is c.requires.1 c.wide.ensures) c.bytes.ensures

@@ -11,8 +11,8 @@ use Rattle.serve.proofs.BlockLaws.{lent_is, did-lent}
 use Rattle.serve_tick.proofs.tick_at.Goals as goal
 
 pub tick-requires : goal.tick-requires
-tick-requires c = subst (λ (b : List ℕ). Seated (farm_of b).line × RowsFit c.args.site × Whole b) (sym (lent_is c.args.t.now c.args.f))
+tick-requires c = subst (λ (b : List ℕ). Seated (farm_of b).line × RowsFit c.args.site × Whole b) (sym (lent_is _ _ _ _ c.block_of.ensures))
     (c.requires.2, c.requires.3, c.requires.4)
 
 pub returns : goal.returns
-returns c = did-lent _ _ _ _ c.args.f (ticked (site_sheet c.args.site)) c.requires.1 c.requires.0 c.tick.ensures
+returns c = did-lent _ _ _ _ _ c.block_of.ensures c.requires.1 c.requires.0 _ _ (ticked (site_sheet c.args.site)) c.tick.ensures

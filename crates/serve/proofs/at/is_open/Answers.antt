@@ -10,4 +10,4 @@ use Rattle.serve.proofs.at.is_open.Goals as goal
 
 pub returns : goal.returns
 returns c =
-    c.is_open.ensures ∙ ap (λ (b : List ℕ). is_open (row_at (farm_of b).rows c.args.seat)) (lent_is c.args.t.now c.args.f.0)
+    c.is_open.ensures ∙ ap (λ (b : List ℕ). is_open (row_at (farm_of b).rows c.args.seat)) (lent_is _ _ _ _ c.block_of.ensures)

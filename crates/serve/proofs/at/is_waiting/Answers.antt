@@ -10,4 +10,4 @@ use Rattle.serve.proofs.at.is_waiting.Goals as goal
 
 pub returns : goal.returns
 returns c =
-    c.is_waiting.ensures ∙ ap (λ (b : List ℕ). is_waiting (row_at (farm_of b).rows c.args.seat)) (lent_is c.args.t.now c.args.f.0)
+    c.is_waiting.ensures ∙ ap (λ (b : List ℕ). is_waiting (row_at (farm_of b).rows c.args.seat)) (lent_is _ _ _ _ c.block_of.ensures)

@@ -9,4 +9,4 @@ use Rattle.serve.proofs.BlockLaws.{lent_is}
 use Rattle.serve.proofs.at.open_rows.Goals as goal
 
 pub returns : goal.returns
-returns c = c.open_rows.ensures ∙ ap (λ (b : List ℕ). open_rows (farm_of b)) (lent_is c.args.t.now c.args.f.0)
+returns c = c.open_rows.ensures ∙ ap (λ (b : List ℕ). open_rows (farm_of b)) (lent_is _ _ _ _ c.block_of.ensures)

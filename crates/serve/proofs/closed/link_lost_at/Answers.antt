@@ -12,9 +12,9 @@ use Rattle.serve.proofs.closed.link_lost_at.Goals as goal
 
 pub link_lost-requires : goal.link_lost-requires
 link_lost-requires c =
-    subst (λ (b : List ℕ). RowsFit c.args.site × Whole b) (sym (lent_is c.args.t.now c.args.f))
+    subst (λ (b : List ℕ). RowsFit c.args.site × Whole b) (sym (lent_is _ _ _ _ c.block_of.ensures))
     (c.requires.2, c.requires.3)
 
 pub returns : goal.returns
 returns c =
-    did-lent _ _ _ _ c.args.f (link_gone (site_sheet c.args.site)) c.requires.1 c.requires.0 c.link_lost.ensures
+    did-lent _ _ _ _ _ c.block_of.ensures c.requires.1 c.requires.0 _ _ (link_gone (site_sheet c.args.site)) c.link_lost.ensures

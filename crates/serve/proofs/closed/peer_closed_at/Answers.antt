@@ -15,9 +15,9 @@ pub peer_closed-requires : goal.peer_closed-requires
 peer_closed-requires c =
     subst
     (λ (b : List ℕ). (c.args.seat < seats) × Seated (farm_of b).line × RowsFit c.args.site × Whole b)
-    (sym (lent_is c.args.t.now c.args.f))
+    (sym (lent_is _ _ _ _ c.block_of.ensures))
     (c.requires.2, c.requires.3, c.requires.4, c.requires.5)
 
 pub returns : goal.returns
 returns c =
-    did-lent _ _ _ _ c.args.f (peer_gone (site_sheet c.args.site) c.args.seat) c.requires.1 c.requires.0 c.peer_closed.ensures
+    did-lent _ _ _ _ _ c.block_of.ensures c.requires.1 c.requires.0 _ _ (peer_gone (site_sheet c.args.site) c.args.seat) c.peer_closed.ensures

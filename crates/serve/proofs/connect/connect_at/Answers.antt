@@ -10,8 +10,8 @@ use Rattle.serve.proofs.connect.connect_at.Goals as goal
 
 pub connect-requires : goal.connect-requires
 connect-requires c =
-    subst (λ (b : List ℕ). (c.args.rows ≤ seats) × Whole b) (sym (lent_is c.args.t.now c.args.f)) (c.requires.2, c.requires.3)
+    subst (λ (b : List ℕ). (c.args.rows ≤ seats) × Whole b) (sym (lent_is _ _ _ _ c.block_of.ensures)) (c.requires.2, c.requires.3)
 
 pub returns : goal.returns
 returns c =
-    connected-lent _ _ c.args.f c.args.rows _ c.requires.1 c.requires.0 c.connect.ensures
+    connected-lent _ _ _ _ _ c.block_of.ensures c.requires.1 c.requires.0 c.args.rows _ c.connect.ensures
