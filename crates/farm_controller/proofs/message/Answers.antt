@@ -41,7 +41,7 @@ pub say-requires : goal.say-requires
 say-requires c = let a = c.args in
     let some : c.holder.result ≡ Some c.in_ok-seat.seat = grind arith in
     let k = found_below (active_as a.to) 0 (farm_of a.b.now).rows _ (sym c.holder.ensures ∙ some) in
-    (omega (arith, k, nine a.b.now), sited_fit a.s.now a.f.0 a.site c.requires.1,)
+    (omega (arith, k, nine a.b.now), sited_fit a.s.now a.f.0 a.site c.requires.1)
 
 pub returns : goal.returns
 returns c = let a = c.args in
