@@ -1,2 +1,2 @@
 pub mod TableLaws
-pub mod SeatRules
+pub mod Sizes

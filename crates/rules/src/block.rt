@@ -42,7 +42,7 @@ fn head_keeps(b: &[u8], site: Site) -> bool
 }
 
 // The farm's rules, of a farm with these three numbers and so many rows.
-#[tactic(auto, using(crate::proofs::SeatRules::so_long), unfolding(model::specs::RuleTest::good_farm, model::specs::Farm::seat_count, row_rules::specs::Seat::rule_sheet, kinds::specs::Clock::check_limit))]
+#[tactic(auto, using(crate::proofs::Sizes::long), unfolding(model::specs::RuleTest::good_farm, model::specs::Farm::seat_count, row_rules::specs::Seat::rule_sheet, kinds::specs::Clock::check_limit))]
 fn farm_keeps(b: &[u8], s: &[u8], f: FarmNo, site: Site, rows: usize) -> bool
     requires { (length b.now ≡ block_size) × GoodSheet s.now }
     ensures { result ≡ good_farm (rule_sheet s.now f.0 site rows) (farm_of b.now) }

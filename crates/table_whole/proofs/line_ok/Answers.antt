@@ -21,7 +21,8 @@ returns-then-n-le-SEATS c =
     let n : ℕ = c.wide-n.result in
     let m : 22 - (13 + n) ≡ seats - n = omega arith in
     line-says b c.requires n c.wide-n.ensures c.if-n-le-SEATS.true c.all.result
-    (cases_from_all _ _ c.all.result (λ x. x ≡ 0) (λ x. x ≢ 0) c.all.ensures.ran (YieldsList-from_slice (part b (seats_at + n) (seats - n)) (c.iter.ensures.rest ∙ ap (λ (m : ℕ). part b (seats_at + n) m) m))
+    (cases_from_all _ _ c.all.result (λ x. x ≡ 0) (λ x. x ≢ 0) c.all.ensures.ran
+    (YieldsList-from_slice (part b (seats_at + n) (seats - n)) (c.iter.ensures.rest ∙ ap (λ (m : ℕ). part b (seats_at + n) m) m))
     (λ x q k. search (rules, tests)) (λ x q k. search (rules, tests)))
 
 pub returns-else-n-le-SEATS : goal.returns-else-n-le-SEATS

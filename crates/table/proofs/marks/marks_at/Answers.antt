@@ -10,4 +10,6 @@ use Rattle.table.proofs.MarkLaws.{marks-seats}
 use Rattle.table.proofs.marks.marks_at.Goals as goal
 
 pub returns : goal.returns
-returns c = made_by _ _ (is_marked (farm_of c.args.b.now).marks) (λ x y q k. search rules) _ (farm_of c.args.b.now).marks 9 false c.from_fn.ensures.items (marks-seats c.args.b.now c.requires) (λ k l. refl)
+returns c =
+    made_by _ _ (is_marked (farm_of c.args.b.now).marks) (λ x y q k. search rules) _ (farm_of c.args.b.now).marks 9 false
+    c.from_fn.ensures.items (marks-seats c.args.b.now c.requires) (λ k l. refl)

@@ -4,4 +4,4 @@ use Rattle.decide.proofs.RowLaws.{nine}
 use Rattle.row_rules.proofs.FarmLaws.{head_carried}
 use Rattle.table.proofs.MarkLaws.{marks-seats}
 
-pub ruleset so_long = (nine, marks-seats, head_carried)
+pub ruleset long = (nine, marks-seats, head_carried)
