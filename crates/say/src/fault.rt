@@ -17,22 +17,18 @@ struct Words {
 
 impl Write for Words {
     fn write_str(&mut self, s: &str) -> fmt::Result {
-        for b in s.as_bytes() {
-            if self.used < ROOM {
-                self.bytes[self.used] = *b;
-                self.used += 1;
-            }
-        }
+        let fits = s.len().min(ROOM - self.used);
+        let bytes = &mut self.bytes[..];
+        bytes[self.used..self.used + fits].copy_from_slice(&s.as_bytes()[..fits]);
+        self.used += fits;
         Ok(())
     }
 }
 
 // std writes " (os error 2)" after the system's words; here they stand alone.
 fn alone(text: &str) -> &str {
-    match text.split_once(" (os error ") {
-        Some((words, _)) => words,
-        None => text,
-    }
+    text.split_once(" (os error ")
+        .map_or(text, |(words, _)| words)
 }
 
 // What can't be written there is not told.
@@ -42,9 +38,6 @@ pub fn fail<R: Eprint>(rt: &R, what: &str, error: io::Error) {
         used: 0,
     };
     let _ = write!(words, "{error}");
-    let text = match str::from_utf8(&words.bytes[..words.used]) {
-        Ok(text) => alone(text),
-        Err(_) => "",
-    };
+    let text = alone(str::from_utf8(&words.bytes[..words.used]).unwrap_or(""));
     let _ = eprintln!(rt; "{what}: {text}");
 }
