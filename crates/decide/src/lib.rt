@@ -14,7 +14,7 @@ ghost use Rattle.decide.specs.SiteSheet.{site_sheet};
 use kinds::{Check, Clock, Decision, HeadVerdict, RowState, Site};
 use table::SEATS;
 
-// "All codes but 10 close the row."
+// "All codes but 10 close the row." Codes are numbers: the promises speak of any, and a plan reads back any byte.
 pub const ACCEPTED: u8 = 0x10;
 
 // ---- what is asked of one row

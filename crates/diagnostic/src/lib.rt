@@ -19,7 +19,7 @@ use plan::Plan;
 use rowwork::refuse;
 use sheet::find;
 
-// "8002 with 00"
+// "8002 with 00"; numbers, as decide::ACCEPTED is.
 const GOES_ON: u8 = 0x00;
 
 // "row not active or source not its address: 8003 with 02, close (ours); target not one of this farm's: 03; not reachable: 06"

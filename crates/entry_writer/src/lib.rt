@@ -11,7 +11,7 @@ ghost use Rattle.outsheet.specs.Contracts.{Fits, Entered};
 
 use kinds::{Item, Reply, RowNo};
 
-// The kinds of an entry.
+// The kinds of an entry: bytes that go out, each named where it is written, so that an enum would only be turned back into them.
 const SEND: u8 = 1;
 
 const CLOSE: u8 = 2;

@@ -92,14 +92,15 @@ pub struct Meters {
     pub lost: u32,
 }
 
-// Whom an alive check asks: the row with this seat, or all active rows of the farm.
+// Whom an alive check asks: the row with this seat, or all active rows of the farm. (No Option: to ask all is no absence.)
 #[derive(Clone, Copy)]
 pub enum Check {
     One(u8),
     All,
 }
 
-// What the rules say of a request: a code at once, or an alive check first.
+// What the rules say of a request: a code at once, or an alive check first. (No Result: neither is a failure. A code is a number, since the
+// promises speak of any.)
 #[derive(Clone, Copy)]
 pub enum Decision {
     Now(u8),

@@ -14,7 +14,7 @@ use wire::header::Header;
 
 const HEADER: usize = 8;
 
-// ---- a payload that is read or skipped: only here is the header judged again
+// ---- a payload that is read or skipped: only here is the header judged again; the two ask the verdict something else
 
 fn reads(h: Header, n: u32) -> bool
     ensures { result ≡ both (ltb n h.length) (passes (verdict_of h)) }

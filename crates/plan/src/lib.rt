@@ -68,7 +68,7 @@ fn reply_from(tag: u8, code: u8, a: u16, b: u16) -> Reply
     }
 }
 
-// The item at a place of the bytes; past the count it is none of the plan's.
+// The item at a place of the bytes; past the count it is none of the plan's. It stands beside `Plan::item`, since it answers there too.
 pub fn item_at(p: &[u8], i: usize) -> Item
     requires { 1 + (i + 1) * item_size ≤ length p.now }
     ensures { result ≡ item_at p.now i }

@@ -18,7 +18,8 @@ use plan::Plan;
 use rowwork::answer;
 use sheet::find;
 
-// "00: not a tester of this farm. 06: type other than 00 or 01.", and 02 for another address on an active row.
+// "00: not a tester of this farm. 06: type other than 00 or 01.", and 02 for another address on an active row. Numbers, as decide::ACCEPTED
+// is.
 const NO_TESTER: u8 = 0x00;
 
 const OTHER_ADDRESS: u8 = 0x02;

@@ -39,7 +39,7 @@ pub struct Rig {
     pub text: Text,
 }
 
-// The call, with all that is lent to it.
+// The call, with all that is lent to it: the memory in parts, as `Served` speaks of it.
 fn make(
     call: Call,
     rest: &[u8],

@@ -20,7 +20,7 @@ pub const HEAD: usize = 11;
 
 const SPARE: usize = 19;
 
-// ---- the state
+// ---- the state; its tag is a byte of the lent table, where any may stand
 
 fn state_from(tag: u8, kind: u8, address: u16, ticks: u16) -> RowState
     ensures { result ≡ state_from tag kind address ticks }

@@ -27,7 +27,7 @@ pub struct Text {
     ghost within: { used ≤ text_size },
 }
 
-// Writes all that is gathered.
+// Writes all that is gathered, of bytes of any length: a Text would be narrower.
 pub fn flush<R: Print + Eprint>(rt: &R, text: &[u8], used: usize)
     requires { used ≤ length text.now }
 {

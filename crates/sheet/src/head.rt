@@ -1,4 +1,4 @@
-// The header's counts, and where the sections stand that they say.
+// The header's counts, and where the sections stand that they say. Each is a number of its own: one function with a place would name none.
 ghost use Rattle.std.specs.Prelude.{◌≡◌, ◌≤◌, length};
 ghost use Rattle.sheet.specs.Sheet.{head_size, farm_count, tester_count, target_count, testers_at, targets_at};
 

@@ -9,7 +9,7 @@ ghost use Rattle.table.specs.Block.{meters_from, farm_of, Whole, Holds};
 use kinds::Meters;
 use table::{LINE, METERS};
 
-// A meter goes up.
+// A meter goes up. The three below are a line each: a meter is a field, and no parameter names a field.
 fn more(meter: u32, head: u32, payload: u32) -> u32
     ensures { result ≡ wrap (meter + (head + payload)) }
 {
