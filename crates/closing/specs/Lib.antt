@@ -1,2 +1,2 @@
 pub mod Did
-pub mod Closes
+pub mod Decides

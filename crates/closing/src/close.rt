@@ -1,14 +1,14 @@
 // A row closes: it is free, and the bytes of its unfinished message are lost.
-ghost use Rattle.std.specs.Prelude.{◌≡◌, ℕ, ◌<◌, length};
+ghost use Rattle.std.specs.Prelude.{◌≡◌, ℕ, ◌<◌, Bool};
 ghost use Rattle.kinds.specs.declared.Row.{Row};
-ghost use Rattle.model.specs.Row.{in_hand_at, in_hand_by, row_at, is_open_state, at_limit_state, is_open, at_limit};
-ghost use Rattle.model.specs.Farm.{lost_more, closed, closed_if, closed_where};
+ghost use Rattle.model.specs.Row.{in_hand_at, in_hand_by, is_open_state, at_limit_state, is_open, at_limit};
+ghost use Rattle.model.specs.Farm.{lost_more, closed, closed_where};
 ghost use Rattle.model.specs.Line.{is_silent};
-ghost use Rattle.table.specs.Layout.{seats, block_size};
+ghost use Rattle.table.specs.Layout.{seats};
 ghost use Rattle.table.specs.Block.{farm_of, Whole};
 ghost use Rattle.decide.specs.SiteSheet.{site_sheet};
 ghost use Rattle.closing.specs.Did.{RowsFit, Did};
-ghost use Rattle.closing.specs.Closes.{closes_by};
+ghost use Rattle.closing.specs.Decides.{Decides};
 
 use crate::say;
 use kinds::{Check, Clock, Meters, Place, Reply, RowState, Site};
@@ -17,14 +17,6 @@ use table::SEATS;
 
 // The bytes of a header.
 const HEAD: u32 = 8;
-
-// Which rows are to close: those asked that have not answered, those at their limit, all that are open.
-#[derive(Clone, Copy)]
-pub enum Closing {
-    Silent(Check),
-    Due,
-    Open,
-}
 
 // ---- the meter
 
@@ -82,34 +74,16 @@ fn at_limit(s: RowState) -> bool
     }
 }
 
-fn closes(b: &[u8], what: Closing, m: [bool; SEATS], i: usize) -> bool
-    requires { (i < seats) × (length b.now ≡ block_size) }
-    ensures { result ≡ closes_by what m i (row_at (farm_of b.now).rows i) }
-{
-    let s = table::row::state_at(b, i);
-    match what {
-        Closing::Silent(check) => decide::is_silent(b, check, m, i),
-        Closing::Due => at_limit(s),
-        Closing::Open => is_open(s),
-    }
-}
-
-fn close_if(b: &mut [u8], p: &mut Plan, site: Site, what: Closing, m: [bool; SEATS], i: usize)
-    requires { (i < seats) × RowsFit site × Whole b.old }
-    ensures { Did p.old b.new p.new (closed_if (site_sheet site) (closes_by what m) i (farm_of b.old)) }
-{
-    if closes(b, what, m, i) {
-        close(b, p, site, i);
-    }
-}
-
-// "lowest first"
-fn close_where(b: &mut [u8], p: &mut Plan, site: Site, what: Closing, m: [bool; SEATS])
-    requires { RowsFit site × Whole b.old }
-    ensures { Did p.old b.new p.new (closed_where (site_sheet site) (closes_by what m) (farm_of b.old)) }
+// "lowest first": each row is asked when its turn comes
+fn close_where<F: Fn(&[u8], usize) -> bool>(b: &mut [u8], p: &mut Plan, site: Site, passes: F)
+    ghost test: { ℕ → Row → Bool }
+    requires { RowsFit site × Whole b.old × Decides F.Fn passes test }
+    ensures { Did p.old b.new p.new (closed_where (site_sheet site) test (farm_of b.old)) }
 {
     for i in 0..SEATS {
-        close_if(b, p, site, what, m, i);
+        if passes(b, i) {
+            close(b, p, site, i);
+        }
     }
 }
 
@@ -118,21 +92,19 @@ pub fn close_silent(b: &mut [u8], p: &mut Plan, site: Site, check: Check, m: [bo
     requires { RowsFit site × Whole b.old }
     ensures { Did p.old b.new p.new (closed_where (site_sheet site) (is_silent check m) (farm_of b.old)) }
 {
-    close_where(b, p, site, Closing::Silent(check), m);
+    close_where(b, p, site, |b, i| decide::is_silent(b, check, m, i));
 }
 
 pub fn close_due(b: &mut [u8], p: &mut Plan, site: Site)
     requires { RowsFit site × Whole b.old }
     ensures { Did p.old b.new p.new (closed_where (site_sheet site) (λ (seat : ℕ) (r : Row). at_limit r) (farm_of b.old)) }
 {
-    let none = [false; SEATS];
-    close_where(b, p, site, Closing::Due, none);
+    close_where(b, p, site, |b, i| at_limit(table::row::state_at(b, i)));
 }
 
 pub fn close_open(b: &mut [u8], p: &mut Plan, site: Site)
     requires { RowsFit site × Whole b.old }
     ensures { Did p.old b.new p.new (closed_where (site_sheet site) (λ (seat : ℕ) (r : Row). is_open r) (farm_of b.old)) }
 {
-    let none = [false; SEATS];
-    close_where(b, p, site, Closing::Open, none);
+    close_where(b, p, site, |b, i| is_open(table::row::state_at(b, i)));
 }
