@@ -29,20 +29,12 @@ pub fn message(
     requires { (seat < seats) × (length (farm_of b.old).line < seats) × (length room.now ≡ most_payload) × RightLength kind size × Sited s.now f.0 site × Whole b.old }
     ensures { Did p.old b.new p.new (messaged (farm_sheet s.now f.0) seat kind (take size room.now) (farm_of b.old)) }
 {
-    let n = size as usize;
-    if kind == 0x0005 {
-        let q = payload::request_of(&room[..n]);
-        request::request(b, p, s, f, site, seat, q);
-        return;
-    }
-    if kind == 0x0008 {
-        let a = payload::address_of(&room[..n]);
-        line_join::mark_row(b, site, seat, a);
-        return;
-    }
-    if kind == 0x8001 {
-        let e = payload::ends_of(&room[..n]);
-        diagnostic::diagnose(b, p, s, f, site, seat, e);
+    let payload = &room[..size as usize];
+    match kind {
+        0x0005 => request::request(b, p, s, f, site, seat, payload::request_of(payload)),
+        0x0008 => line_join::mark_row(b, site, seat, payload::address_of(payload)),
+        0x8001 => diagnostic::diagnose(b, p, s, f, site, seat, payload::ends_of(payload)),
+        _ => {}
     }
 }
 
