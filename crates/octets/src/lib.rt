@@ -1,7 +1,7 @@
 // Big-endian numbers in lent bytes, and the one function that puts a run of bytes into its place.
 #![tactic(auto)]
 
-ghost use Rattle.std.specs.Prelude.{◌≡◌, ◌+◌, ◌≤◌, length};
+ghost use Rattle.std.specs.Prelude.{◌≡◌, ◌+◌, ◌*◌, ◌≤◌, length};
 ghost use Rattle.octets.specs.Numbers.{u16_at, u32_at, be16, be32};
 ghost use Rattle.octets.specs.Put.{put_at};
 ghost use Rattle.octets.specs.Search.{same_list};
@@ -13,20 +13,33 @@ pub fn wide(x: u8) -> usize
     usize::from(x)
 }
 
+// The number of two bytes, and of four.
+pub fn join16(a: u8, b: u8) -> u16
+    ensures { result ≡ a * 256 + b }
+{
+    u16::from_be_bytes([a, b])
+}
+
+pub fn join32(a: u8, b: u8, c: u8, d: u8) -> u32
+    ensures { result ≡ a * 16777216 + b * 65536 + c * 256 + d }
+{
+    u32::from_be_bytes([a, b, c, d])
+}
+
 // Two sizes of each, and no generic pair: std has from_be_bytes and to_be_bytes at each type and in no trait, so that the two impls of
 // one of ours would repeat what stands here.
 pub fn read16(s: &[u8], at: usize) -> u16
     requires { at + 2 ≤ length s.now }
     ensures { result ≡ u16_at s.now at }
 {
-    u16::from_be_bytes([s[at], s[at + 1]])
+    join16(s[at], s[at + 1])
 }
 
 pub fn read32(s: &[u8], at: usize) -> u32
     requires { at + 4 ≤ length s.now }
     ensures { result ≡ u32_at s.now at }
 {
-    u32::from_be_bytes([s[at], s[at + 1], s[at + 2], s[at + 3]])
+    join32(s[at], s[at + 1], s[at + 2], s[at + 3])
 }
 
 // All of src into out, from the place at on.

@@ -20,7 +20,7 @@ use Rattle.octets.proofs.PartsLaws.{part_same, parts_before, parts_snoc, parts-l
 use Rattle.kinds.specs.declared.Reply.{Reply}
 use Rattle.kinds.specs.declared.Reply.TheVariants.{Nack, Identity, Activation, AliveCheck, Status, PowerMode, Message, Ack, DiagnosticNack, Close, HandOn}
 use Rattle.kinds.specs.declared.Item.{Item}
-use Rattle.plan.specs.Plan.{plan_room, item_size, plan_size, reply_image, item_image, reply_from, item_from, item_at, count_of, items_of, no_item, pushed_to}
+use Rattle.plan.specs.Plan.{Said, plan_room, item_size, plan_size, reply_image, item_image, reply_from, item_from, item_at, count_of, items_of, no_item, pushed_to}
 
 -- ---- an item and its bytes
 
@@ -170,8 +170,13 @@ module _ (p q r : List ℕ) (it : Item) (w : length p ≡ plan_size) (h : get_or
 -- ---- lists that are pushed to
 
 -- what a plan says after a push, where it is known what it said before
-pub said_more : {p q items : List Item} (it : Item) → length items < plan_room → p ≡ items → q ≡ pushed_to p it → q ≡ items ++ (it ∷ [])
-said_more {items = items} it h e f = f ∙ ap (λ (l : List Item). pushed_to l it) e ∙ pushed_room items it h
+pub pushed_more : {p q items : List Item} (it : Item) → length items < plan_room → p ≡ items → q ≡ pushed_to p it → q ≡ items ++ (it ∷ [])
+pushed_more {items = items} it h e f = f ∙ ap (λ (l : List Item). pushed_to l it) e ∙ pushed_room items it h
+
+-- the same of the bytes within
+pub said_more : {p q : List ℕ} {items : List Item} (it : Item) → length items < plan_room
+    → Said p items → Said q (pushed_to (items_of p) it) → Said q (items ++ (it ∷ []))
+said_more it h s t = record { is = pushed_more it h s.is t.is; ok = t.ok }
 
 pub length_pushed : (items : List Item) (it : Item) → length items < plan_room → length (pushed_to items it) ≡ length items + 1
 length_pushed items it h = ap length (pushed_room items it h) ∙ length-append items (it ∷ [])

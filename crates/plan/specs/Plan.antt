@@ -1,6 +1,6 @@
 -- The plan of a call's entries in bytes: a count, then room for so many items. Its meaning is a list of items, whatever the bytes are.
 -- Assumes nothing: these are definitions.
-use Rattle.std.specs.Prelude.{List, [], ◌∷◌, ◌++◌, map, ℕ, ◌+◌, ◌*◌, ◌/◌, min, eqb, ltb, length, get_or}
+use Rattle.std.specs.Prelude.{◌≡◌, List, [], ◌∷◌, ◌++◌, map, ℕ, ◌+◌, ◌*◌, ◌/◌, min, eqb, ltb, length, get_or}
 use Rattle.octets.specs.Choice.{pick}
 use Rattle.octets.specs.Numbers.{u16_at, be16}
 use Rattle.octets.specs.Parts.{part, parts}
@@ -77,6 +77,15 @@ items_of p = map item_from (parts item_size 1 (count_of p) p)
 -- what stands past the last item
 abbrev pub no_item : Item
 no_item = item_from []
+
+-- of the bytes within: they are as many as a plan has
+pub record PlanOk (p : List ℕ) : Type 0 where
+  pub long : length p ≡ plan_size
+
+-- and say these items
+pub record Said (p : List ℕ) (items : List Item) : Type 0 where
+  pub is : items_of p ≡ items
+  pub ok : PlanOk p
 
 -- one more, or as they are where the plan is full
 unfoldable pub pushed_to : List Item → Item → List Item
