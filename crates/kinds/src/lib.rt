@@ -107,7 +107,7 @@ pub enum Decision {
     Ask(Check),
 }
 
-// What becomes of the head of a line: its check goes on, it has its answer, or its check has run out.
+// What becomes of the head of a line: its check goes on, it has its answer, or its check has run out. (Three, and none an absence.)
 #[derive(Clone, Copy)]
 pub enum HeadVerdict {
     Pending,

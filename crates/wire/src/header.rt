@@ -54,7 +54,7 @@ pub fn judge(h: Header) -> Result<(), Fault>
     Ok(())
 }
 
-// The NACK's code. No `From<Fault>`: it would stand beside the type in kinds, where nothing knows how a type stands in bytes.
+// The NACK's code, under the name that the papers give; a `From<Fault>` beside it would say it twice.
 pub fn code_of(f: Fault) -> u8
     ensures { result ≡ code_of f }
 {

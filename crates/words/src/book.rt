@@ -6,6 +6,7 @@ ghost use Rattle.words.specs.Book.{phrase, text_in};
 use crate::put;
 
 // A phrase goes by its number and not by an enum: `phrase` and `fill::say` take any number, and an enum has none past the last.
+
 // Refusals.
 pub const REFUSED_1: usize = 0;
 
