@@ -7,14 +7,14 @@ ghost use Rattle.rules.specs.Rules.{slot_keeps, table_keeps};
 
 use crate::block;
 use kinds::FarmNo;
-use table::{BLOCK, FARMS};
+use table::{FARMS, block_of};
 
 fn slot_keeps(t: &[u8], s: &[u8], f: usize) -> bool
     requires { (f < most_farms) × (length t.now ≡ table_size) × GoodSheet s.now }
     ensures { result ≡ slot_keeps s.now t.now f }
 {
-    let at = f * BLOCK;
-    block::block_keeps(&t[at..at + BLOCK], s, FarmNo(f as u8))
+    let farm = FarmNo(f as u8);
+    block::block_keeps(&t[block_of(farm)], s, farm)
 }
 
 pub fn table_keeps(t: &[u8], s: &[u8]) -> bool

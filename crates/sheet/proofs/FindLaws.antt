@@ -1,15 +1,16 @@
 -- Laws of the lookup and of what it looks through: a section of the sheet as a list of testers or targets.
 -- Assumes nothing.
 use Rattle.std.proofs.Common.{Option, Some, None}
+use Rattle.std.specs.List.{range_with_len, find}
 use mathlib.Core.Path.{◌≡◌, refl, sym, ap, ◌∙◌}
-use mathlib.Core.Bool.{Bool, true, false}
+use mathlib.Core.Bool.{Bool, true, false, cond}
 use mathlib.Core.List.Memᴰ
-use mathlib.Core.List.{List, [], ◌∷◌, Memᴰ}
+use mathlib.Core.List.{List, [], ◌∷◌, Memᴰ, map}
 use mathlib.Core.Logic.{⊎_elim}
-use Prim.Native.Nat.{ℕ, zero, suc, ◌+◌, ◌*◌, ◌-◌, ◌≤◌, ◌<◌}
+use Prim.Native.Nat.{ℕ, zero, suc, ◌+◌, ◌*◌, ◌≤◌, ◌<◌}
 use native.Mathlib.Nat.{eq-or-lt_of_le}
 use native.Mathlib.Omega.{arith}
-use borrow.Author.Tests.{eq-eqb, ne_eqb, eqb-true, eqb-false}
+use borrow.Author.Tests.{ne_eqb, eqb-true, eqb-false}
 use lib.Dec.{eqb}
 use lib.ListN.{length, get_or, length-map}
 use Rattle.octets.specs.Choice.{pick}
@@ -36,30 +37,28 @@ known_part s p =
 pub knowns_length : (s : List ℕ) (at n : ℕ) → length (knowns_at s at n) ≡ n
 knowns_length s at n = length-map (parts known_size at n s) known_from ∙ parts-length known_size at n s
 
--- ---- a step of the search: the four bytes at p are looked at, and n are left with them
+-- ---- the search by places: i is the place a + i of the section
 
-pub lookup-here : (x : ℕ) (s : List ℕ) (p n : ℕ) → 0 < n → u16_at s p ≡ x → lookup x (knowns_at s p n) ≡ Some (known_from (part s p known_size))
+found_from : (x : ℕ) (s : List ℕ) (at a n : ℕ)
+    → find (λ (k : Known). eqb k.address x) (map (λ (i : ℕ). known_from (part s (at + i * known_size) known_size)) (range_with_len a n)) ≡ lookup x (knowns_at s (at + a * known_size) n)
 unfolding lookup parts
-lookup-here x s p zero h e = absurd (omega arith)
-lookup-here x s p (suc n) h e = rw (eq-eqb (known_from (part s p known_size)).address x (ap (λ (k : Known). k.address) (known_part s p) ∙ e))
+found_from x s at a zero = refl
+found_from x s at a (suc n) =
+    let z : at + (a + 1) * known_size ≡ at + a * known_size + known_size = omega arith in
+    by (eqb (known_from (part s (at + a * known_size) known_size)).address x)
+    (found_from x s at (a + 1) n ∙ ap (λ (p : ℕ). lookup x (knowns_at s p n)) z)
+  where
+    k : Known
+    k = known_from (part s (at + a * known_size) known_size)
 
-pub lookup_next : (x : ℕ) (s : List ℕ) (p n : ℕ) → 0 < n → (u16_at s p ≡ x → ⊥)
-    → lookup x (knowns_at s p n) ≡ lookup x (knowns_at s (p + known_size) (n - 1))
-unfolding lookup parts
-lookup_next x s p zero h ne = absurd (omega arith)
-lookup_next x s p (suc n) h ne =
-    let z : n ≡ suc n - 1 = omega arith in
-    rw (ne_eqb (known_from (part s p known_size)).address x (λ e. ne (sym (ap (λ (k : Known). k.address) (known_part s p)) ∙ e)))
-    (ap (λ (m : ℕ). lookup x (knowns_at s (p + known_size) m)) z)
+    by : (b : Bool) {r q : Option Known} → r ≡ q → cond b (Some k) r ≡ pick b (Some k) q
+    by true e = refl
+    by false e = e
 
-pub lookup_end : (x : ℕ) (s : List ℕ) (p n : ℕ) → n ≤ 0 → lookup x (knowns_at s p n) ≡ None
-unfolding lookup parts
-lookup_end x s p zero h = refl
-lookup_end x s p (suc n) h = absurd (omega arith)
-
--- a lookup in the section that was read is the lookup in the sheet's own
-pub lookup_same : (x : ℕ) (s : List ℕ) {at at' n n' : ℕ} → at ≡ at' → n ≡ n' → lookup x (knowns_at s at n) ≡ lookup x (knowns_at s at' n')
-lookup_same x s {at} {at'} {n} {n'} ea en = ap (λ (k : ℕ). lookup x (knowns_at s k n)) ea ∙ ap (λ (k : ℕ). lookup x (knowns_at s at' k)) en
+pub found_in_all : (x : ℕ) (s : List ℕ) (at n : ℕ)
+    → find (λ (k : Known). eqb k.address x) (map (λ (i : ℕ). known_from (part s (at + i * known_size) known_size)) (range_with_len 0 n)) ≡ lookup x (knowns_at s at n)
+found_in_all x s at n =
+    let z : at + 0 * known_size ≡ at = omega arith in found_from x s at 0 n ∙ ap (λ (p : ℕ). lookup x (knowns_at s p n)) z
 
 -- ---- what a lookup finds, in any list
 

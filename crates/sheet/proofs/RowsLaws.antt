@@ -1,13 +1,17 @@
 -- Laws of whose row is whose: each row of the sheet is one seat of one farm, and each seat of a farm is one row of the sheet.
 -- Assumes nothing.
 use Rattle.std.proofs.Common.{Option, Some, None}
+use Rattle.std.specs.List.{sum_by, range_with_len}
+use Rattle.std.proofs.lemmas.List.Sums.{sum_by-cons}
 use mathlib.Core.Path.{◌≡◌, refl, sym, ap, ◌∙◌, subst}
 use mathlib.Core.List.{List}
 use mathlib.Core.Logic.{⊎_elim}
 use Prim.Native.Nat.{ℕ, zero, suc, ◌+◌, ◌-◌, ◌≤◌, ◌<◌}
 use native.Mathlib.Nat.{eq-or-lt_of_le, zero-add}
+use native.Mathlib.Numerals.{add-one}
 use native.Mathlib.Omega.{arith}
 use borrow.Author.Tests.{lt-ltb, le-ltb}
+use lib.ListN.{length}
 use Rattle.sheet.proofs.Order.{le_or_lt}
 use Rattle.kinds.specs.declared.FarmNo.{FarmNo}
 use Rattle.sheet.specs.Sheet.{farm_count, farm_no, most_quota, most_rows}
@@ -18,6 +22,20 @@ same_seat : {f g i j : ℕ} → ◌≡◌ {A = Option (FarmNo × ℕ)} (Some (fa
 same_seat {f} {g} {i} {j} e =
     let n : ◌≡◌ {A = FarmNo × ℕ} (farm_no f, i) (farm_no g, j) = cc in
     (ap (λ (p : FarmNo × ℕ). p.0.0) n, ap (λ (p : FarmNo × ℕ). p.1) n)
+
+pub range-long : (a n : ℕ) → length (range_with_len a n) ≡ n
+range-long a zero = refl
+range-long a (suc n) = ap suc (range-long (a + 1) n)
+
+-- "and so on": the rows of n farms, from farm a on
+summed : (s : List ℕ) (a n : ℕ) → first_row s a + sum_by (rows_owned s) (range_with_len a n) ≡ first_row s (a + n)
+summed s a zero = let z : a ≡ a + 0 = omega arith in omega (arith, ap (first_row s) z)
+summed s a (suc n) =
+    let z : a + 1 + n ≡ a + suc n = omega arith in
+    omega (arith, sum_by-cons (rows_owned s) a (range_with_len (a + 1) n), ap (first_row s) (add-one a), summed s (a + 1) n, ap (first_row s) z)
+
+pub summed_all : (s : List ℕ) (n : ℕ) → sum_by (rows_owned s) (range_with_len 0 n) ≡ first_row s n
+summed_all s n = let z : 0 + n ≡ n = omega arith in omega (arith, summed s 0 n, ap (first_row s) z)
 
 module _ (s : List ℕ) where
   pub rows_mono : (f n : ℕ) → f ≤ n → first_row s f ≤ first_row s n

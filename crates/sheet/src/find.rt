@@ -33,13 +33,9 @@ fn lookup_in(s: &[u8], at: usize, n: usize, address: u16) -> Option<Known>
     requires { at + n * known_size ≤ length s.now }
     ensures { result ≡ lookup address (knowns_at s.now at n) }
 {
-    for i in 0..n {
-        let known = known_at(s, at + i * KNOWN_SIZE);
-        if known.address == address {
-            return Some(known);
-        }
-    }
-    None
+    (0..n)
+        .map(|i| known_at(s, at + i * KNOWN_SIZE))
+        .find(|known| known.address == address)
 }
 
 // The whole sheet's length is asked of both. A search by halves (request R-3) will ask besides that the addresses ascend, which its

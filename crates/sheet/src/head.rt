@@ -29,15 +29,12 @@ pub fn testers_at(s: &[u8]) -> usize
     requires { head_size ≤ length s.now }
     ensures { result ≡ testers_at s.now }
 {
-    let farms = usize::from(octets::read16(s, 0));
-    HEAD_SIZE + farms * FARM_SIZE
+    HEAD_SIZE + farm_count(s) * FARM_SIZE
 }
 
 pub fn targets_at(s: &[u8]) -> usize
     requires { head_size ≤ length s.now }
     ensures { result ≡ targets_at s.now }
 {
-    let farms = usize::from(octets::read16(s, 0));
-    let testers = usize::from(octets::read16(s, 2));
-    HEAD_SIZE + farms * FARM_SIZE + testers * KNOWN_SIZE
+    testers_at(s) + tester_count(s) * KNOWN_SIZE
 }

@@ -20,11 +20,7 @@ fn rows_before(s: &[u8], n: usize) -> usize
     requires { (farm_at n ≤ length s.now) × (n < 65536) }
     ensures { result ≡ first_row s.now n }
 {
-    let mut sum = 0;
-    for i in 0..n {
-        sum += rows_owned(s, i);
-    }
-    sum
+    (0..n).map(|i| rows_owned(s, i)).sum()
 }
 
 // As an index: of a good sheet it is a row's number, and the caller, who knows that the sheet is good, makes it one.

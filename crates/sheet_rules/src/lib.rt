@@ -20,9 +20,9 @@ fn head_ok(s: &[u8]) -> bool
     requires { head_size ≤ length s.now }
     ensures { Says result (GoodHead s.now) }
 {
-    let farms = usize::from(octets::read16(s, 0));
-    let testers = usize::from(octets::read16(s, 2));
-    let targets = usize::from(octets::read16(s, 4));
+    let farms = head::farm_count(s);
+    let testers = head::tester_count(s);
+    let targets = head::target_count(s);
     let a = HEAD_SIZE + farms * FARM_SIZE;
     let b = a + testers * KNOWN_SIZE;
     let end = b + targets * KNOWN_SIZE;

@@ -2,16 +2,16 @@
 -- Assumes nothing.
 use mathlib.Core.Path.{◌≡◌, sym, ap, ◌∙◌}
 use mathlib.Core.List.{List, [], ◌∷◌, ◌++◌, append_assoc}
-use Prim.Native.Nat.{ℕ, ◌+◌, ◌*◌, ◌<◌}
+use Prim.Native.Nat.{ℕ, ◌+◌, ◌-◌, ◌*◌, ◌<◌}
 use native.Mathlib.Omega.{arith}
 use native.Mathlib.Nat.{add-zero}
-use lib.ListN.{length, get_or, drop, length-append}
+use lib.ListN.{length, get_or, take, drop, length-append}
 use lib.Seq.{set-get_or}
 use Rattle.octets.specs.Numbers.{be16}
 use Rattle.octets.specs.Put.{put_at}
 use Rattle.octets.specs.Parts.{part, parts}
 use Rattle.octets.proofs.PutLaws.{put_start, put-more}
-use Rattle.octets.proofs.PartsLaws.{parts_get, parts-length, length_part, narrow}
+use Rattle.octets.proofs.PartsLaws.{part-between, parts_get, parts-length, length_part, narrow}
 use Rattle.kinds.specs.declared.Clock.{Clock}
 use Rattle.kinds.specs.declared.RowState.{RowState}
 use Rattle.kinds.specs.declared.RowState.TheVariants.{Fresh, Active}
@@ -25,6 +25,12 @@ use Rattle.table.specs.Block.{farm_of, Whole, Holds}
 use Rattle.table.proofs.ListLaws.{back_each}
 use Rattle.rowbytes.proofs.RowLaws.{state_long, place-long, past_all}
 use Rattle.table.proofs.BlockLaws.{row_read, row_put}
+
+-- a row's bytes, as a range lends them
+pub row-lent : (b : List ℕ) (i : ℕ) {a e : ℕ} → a ≡ rows_at + i * row_size → e ≡ rows_at + i * row_size + row_size
+    → take (e - a) (drop a b) ≡ part b (rows_at + i * row_size) row_size
+row-lent b i {a} {e} start end =
+    part-between b a e row_size (omega (arith, start, end)) ∙ ap (λ (k : ℕ). part b k row_size) start
 
 module _ (b : List ℕ) (w : Whole b) (i : ℕ) (h : i < seats) where
   -- the row's bytes are those of what it means

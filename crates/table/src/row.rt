@@ -1,14 +1,25 @@
 // The rows of a block: each read as a value, and stored with its records or its ticks alone.
-ghost use Rattle.std.specs.Prelude.{◌≡◌, ◌<◌, length};
+ghost use Rattle.std.specs.Prelude.{◌≡◌, ◌<◌, ◌+◌, ◌*◌, length};
 ghost use Rattle.model.specs.Row.{free_row, row_at};
 ghost use Rattle.model.specs.Farm.{with_row};
-ghost use Rattle.table.specs.Layout.{seats, block_size};
+ghost use Rattle.rowbytes.specs.RowLayout.{row_size};
+ghost use Rattle.table.specs.Layout.{seats, rows_at, block_size};
 ghost use Rattle.rowbytes.specs.RowBytes.{ticked};
 ghost use Rattle.table.specs.Block.{farm_of, Whole, Holds};
 
 use crate::{ROWS, SEATS};
 use kinds::{Place, Row, RowState};
 use rowbytes::{HEAD, PLACE, ROW, TICKS};
+use std::ops::Range;
+
+// Where a row stands in its block.
+fn row_range(i: usize) -> Range<usize>
+    requires { i < seats }
+    ensures { (result.start ≡ rows_at + i * row_size) × (result.end ≡ rows_at + i * row_size + row_size) }
+{
+    let a = ROWS + i * ROW;
+    a..a + ROW
+}
 
 fn free_row() -> Row
     ensures { result ≡ free_row }
@@ -26,9 +37,7 @@ pub fn row_at(b: &[u8], i: usize) -> Row
     ensures { result ≡ row_at (farm_of b.now).rows i }
 {
     if i < SEATS {
-        let a = ROWS + i * ROW;
-        let e = a + ROW;
-        return rowbytes::read_row(&b[a..e]);
+        return rowbytes::read_row(&b[row_range(i)]);
     }
     free_row()
 }
@@ -39,9 +48,7 @@ pub fn state_at(b: &[u8], i: usize) -> RowState
     ensures { result ≡ (row_at (farm_of b.now).rows i).state }
 {
     if i < SEATS {
-        let a = ROWS + i * ROW;
-        let e = a + ROW;
-        return rowbytes::read_state(&b[a..e]);
+        return rowbytes::read_state(&b[row_range(i)]);
     }
     RowState::Free
 }
@@ -50,7 +57,7 @@ pub fn put_row(b: &mut [u8], i: usize, row: Row)
     requires { (i < seats) × Whole b.old }
     ensures { Holds b.new (with_row (farm_of b.old) i row) }
 {
-    let at = ROWS + i * ROW;
+    let at = row_range(i).start;
     octets::put(b, at, &rowbytes::state_bytes(row.state));
     octets::put(b, at + PLACE, &rowbytes::place_bytes(row.place));
     octets::put(b, at + HEAD, &row.head);
@@ -64,7 +71,7 @@ pub fn put_ticks(b: &mut [u8], i: usize, n: u16)
     match state_at(b, i) {
         RowState::Free | RowState::Waiting(_) => {}
         RowState::Fresh(_) | RowState::Active(_, _) => {
-            octets::write16(b, ROWS + i * ROW + TICKS, n);
+            octets::write16(b, row_range(i).start + TICKS, n);
         }
     }
 }

@@ -1,41 +1,26 @@
--- `find::lookup_in` meets its contract. The walk: the lookup in all n is the lookup in those that are left.
+-- `find::lookup_in` meets its contract.
 -- Assumes nothing.
-use Rattle.std.proofs.Common.{Some}
-use mathlib.Core.Path.{◌≡◌, sym, ap, ◌∙◌}
-use Prim.Native.Nat.{ℕ, ◌+◌, ◌*◌, ◌-◌}
+use mathlib.Core.Path.{sym, ◌∙◌}
+use Prim.Native.Nat.{ℕ, ◌+◌, ◌*◌}
 use native.Mathlib.Omega.{arith}
-use Rattle.octets.specs.Numbers.{u16_at}
+use borrow.Author.Tests.{tests}
+use lib.Dec.{eqb}
+use Rattle.std.proofs.Common.{rules}
+use Rattle.std.proofs.lemmas.Iterator.{YieldsList-from_range, YieldsList-from_map}
+use Rattle.std.proofs.lemmas.Iterator.Adapters.{option_map_id}
+use Rattle.std.proofs.lemmas.Iterator.Search.{find_from_yields_List}
+use Rattle.octets.specs.Parts.{part}
 use Rattle.sheet.specs.declared.find.Known.{Known}
-use Rattle.sheet.specs.Sheet.{known_size}
-use Rattle.sheet.proofs.FindLaws.{known_part, lookup-here, lookup_next, lookup_end, lookup_same}
+use Rattle.sheet.specs.Sheet.{known_size, known_from}
+use Rattle.sheet.proofs.FindLaws.{found_in_all}
 use Rattle.sheet.proofs.find.lookup_in.Goals as goal
-
-pub loop-i-init : goal.loop-i-init
-loop-i-init c = lookup_same c.args.address c.args.s.now (omega arith) (omega arith)
-
-pub returns-then-known-address : goal.returns-then-known-address
-returns-then-known-address c =
-    let a = c.args in
-    let i = c.loop-i.i in
-    let p : ℕ = a.at + i * known_size in
-    let k = c.known_at-known in
-    let read : k.result.address ≡ u16_at a.s.now p = ap (λ (x : Known). x.address) (k.ensures ∙ known_part a.s.now p) in
-    ap Some k.ensures
-    ∙ sym (c.loop-i.invariant ∙ lookup-here a.address a.s.now p (a.n - i) (omega arith) (sym read ∙ c.if-known-address.true))
-
-pub loop-i-preserved : goal.loop-i-preserved
-loop-i-preserved c =
-    let a = c.args in
-    let i = c.loop-i.i in
-    let p : ℕ = a.at + i * known_size in
-    let k = c.known_at-known in
-    let read : k.result.address ≡ u16_at a.s.now p = ap (λ (x : Known). x.address) (k.ensures ∙ known_part a.s.now p) in
-    c.loop-i.invariant
-    ∙ lookup_next a.address a.s.now p (a.n - i) (omega arith) (λ e. c.if-known-address.false (read ∙ e))
-    ∙ lookup_same a.address a.s.now (omega arith) (omega arith)
 
 pub returns : goal.returns
 returns c =
     let a = c.args in
-    let i = c.loop-i.i in
-    sym (c.loop-i.invariant ∙ lookup_end a.address a.s.now (a.at + i * known_size) (a.n - i) (omega arith))
+    sym (option_map_id c.find.result)
+    ∙ find_from_yields_List (λ (k : Known). eqb k.address a.address) _ _ _ c.find.ensures.ran
+    (YieldsList-from_map _ (λ (i : ℕ). known_from (part a.s.now (a.at + i * known_size) known_size))
+    (YieldsList-from_range 0 a.n a.n (search rules) (omega arith)) c.map.ensures.closure (λ x r q k. search (rules, tests)))
+    (λ x b q k. search (rules, tests))
+    ∙ found_in_all a.address a.s.now a.at a.n

@@ -1,13 +1,11 @@
 -- `row::state_at` meets its contract.
 -- Assumes nothing.
-use mathlib.Core.Path.{refl, sym, ap, ◌∙◌}
+use mathlib.Core.Path.{sym, ap, ◌∙◌}
 use mathlib.Core.List.{List}
-use Prim.Native.Nat.{ℕ, ◌+◌, ◌*◌}
-use Rattle.octets.proofs.PartsLaws.{part-between}
+use Prim.Native.Nat.{ℕ}
 use Rattle.kinds.specs.declared.Row.{Row}
-use Rattle.rowbytes.specs.RowLayout.{row_size}
-use Rattle.table.specs.Layout.{rows_at}
 use Rattle.rowbytes.specs.RowBytes.{state_in, row_from}
+use Rattle.table.proofs.RowStores.{row-lent}
 use Rattle.table.proofs.BlockLaws.{row_read, no_row_read}
 use Rattle.table.proofs.row.state_at.Goals as goal
 
@@ -16,8 +14,7 @@ unfolding row_from
 returns-then-i-lt-SEATS c =
     let b : List ℕ = c.args.b.now in
     let i : ℕ = c.args.i in
-    let at : ℕ = rows_at + i * row_size in
-    c.read_state.ensures ∙ ap state_in (part-between b at (at + row_size) row_size refl) ∙ ap (λ (r : Row). r.state) (row_read b i c.if-i-lt-SEATS.true)
+    c.read_state.ensures ∙ ap state_in (row-lent b i c.row_range.ensures.0 c.row_range.ensures.1) ∙ ap (λ (r : Row). r.state) (row_read b i c.if-i-lt-SEATS.true)
 
 pub returns : goal.returns
 returns c = sym (ap (λ (r : Row). r.state) (no_row_read c.args.b.now c.args.i c.if-i-lt-SEATS.false))
