@@ -77,8 +77,10 @@ module _ (own : FarmSheet) (f : Farm) where
     where
       s : x ≡ head
       s = same_Some x head h
+
       from : ℕ → Done
       from y = and_then (and_then (acted own y (wanted (row_at f.rows y)) (head_verdict own f y) f) (advanced own l)) (settle_line own l)
+
       by : (v : HeadVerdict) → is_pending v ≡ false
           → serve own x l f v (settle_line own l)
           ≡ and_then (and_then (acted own x (wanted (row_at f.rows x)) v f) (advanced own l)) (settle_line own l)
@@ -151,6 +153,7 @@ module _ (own : FarmSheet) (seat : ℕ) (f : Farm) where
     where
       from : ℕ → Bool
       from y = asked_by (socket_rules own f.rows (wanted (row_at f.rows y))) seat (row_at f.rows seat)
+
       by : (line : List ℕ) → slice_get line 0 ≡ Some head → asked_in own f line seat ≡ from head
       by [] h = absurd (none-some head h)
       by (x ∷ l) h = ap from (same_Some x head h)
