@@ -59,10 +59,9 @@ pub fn start(b: &mut [u8], p: &mut Plan, site: Site)
     ensures { Did p.old b.new p.new (started (site_sheet site) (farm_of b.old)) }
 {
     clear(b);
-    if table_line::waiting(b) == 0 {
+    let Some(head) = table_line::head(b) else {
         return;
-    }
-    let head = table_line::seat_at(b, 0);
+    };
     let d = decide::rules_for(b, site, head);
     ask_by(b, p, site, d);
 }

@@ -1,12 +1,12 @@
 -- The model's steps, a case at a time.
 -- Assumes nothing.
 use Prim.Native.Nat.{ℕ}
-use mathlib.Core.Path.{◌≡◌, refl}
+use mathlib.Core.Path.{◌≡◌, refl, sym, ap}
 use mathlib.Core.Bool.{Bool, true, false}
 use mathlib.Core.List.{List, [], ◌∷◌}
-use lib.ListN.{length, get_or}
-use native.Mathlib.Omega.{arith}
 use borrow.Author.Tests.{eq-eqb, ne_eqb}
+use Rattle.std.specs.Prelude.{Some, None, slice_get}
+use Rattle.std.proofs.lemmas.Option.{none-some, same_Some}
 use Rattle.kinds.specs.declared.Row.{Row}
 use Rattle.kinds.specs.declared.Check.{Check}
 use Rattle.kinds.specs.declared.Reply.TheVariants.{Activation, AliveCheck}
@@ -53,20 +53,20 @@ module _ (own : FarmSheet) (seat address code : ℕ) (f : Farm) where
 -- ---- a line without a head, and one with a head
 
 module _ (own : FarmSheet) (f : Farm) where
-  pub started_none : length f.line ≡ 0 → started own f ≡ quietly (cleared f)
+  pub started_none : slice_get f.line 0 ≡ None → started own f ≡ quietly (cleared f)
   unfolding started
   started_none e = by f.line e
     where
-      by : (line : List ℕ) → length line ≡ 0 → started_by own line f ≡ quietly (cleared f)
+      by : (line : List ℕ) → slice_get line 0 ≡ None → started_by own line f ≡ quietly (cleared f)
       by [] h = refl
-      by (x ∷ l) h = absurd (omega arith)
+      by (x ∷ l) h = absurd (none-some x (sym h))
 
-  pub started-head : (length f.line ≡ 0 → ⊥)
-      → started own f ≡ asking own (socket_rules own f.rows (wanted (row_at f.rows (get_or f.line 0 0)))) (cleared f)
+  pub started-head : (head : ℕ) → slice_get f.line 0 ≡ Some head
+      → started own f ≡ asking own (socket_rules own f.rows (wanted (row_at f.rows head))) (cleared f)
   unfolding started
-  started-head e = by f.line e
+  started-head head e = by f.line e
     where
-      by : (line : List ℕ) → (length line ≡ 0 → ⊥)
-          → started_by own line f ≡ asking own (socket_rules own f.rows (wanted (row_at f.rows (get_or line 0 0)))) (cleared f)
-      by [] h = absurd (h refl)
-      by (x ∷ l) h = refl
+      by : (line : List ℕ) → slice_get line 0 ≡ Some head
+          → started_by own line f ≡ asking own (socket_rules own f.rows (wanted (row_at f.rows head))) (cleared f)
+      by [] h = absurd (none-some head h)
+      by (x ∷ l) h = ap (λ (y : ℕ). asking own (socket_rules own f.rows (wanted (row_at f.rows y))) (cleared f)) (same_Some x head h)

@@ -15,11 +15,9 @@ fn decide_head(b: &mut [u8], p: &mut Plan, site: Site)
     requires { Seated (farm_of b.old).line × RowsFit site × Whole b.old }
     ensures { Did p.old b.new p.new (settle_line (site_sheet site) (farm_of b.old).line (farm_of b.old)) }
 {
-    let n = table_line::waiting(b);
-    if n == 0 {
+    let Some(head) = table_line::head(b) else {
         return;
-    }
-    let head = table_line::seat_at(b, 0);
+    };
     let v = decide::head_verdict(b, site, head);
     if decide::is_pending(v) {
         return;

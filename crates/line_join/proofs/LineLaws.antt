@@ -2,13 +2,15 @@
 -- Assumes nothing.
 use Prim.Native.Nat.{ℕ, ◌+◌}
 use mathlib.Core.Path.{◌≡◌, refl, sym, ap, ◌∙◌}
-use mathlib.Core.Bool.{true, false, false≢true}
+use mathlib.Core.Bool.{Bool, true, false, false≢true}
 use mathlib.Core.List.{List, [], ◌∷◌, ◌++◌}
 use native.Mathlib.Omega.{arith}
 use lib.Dec.{eqb}
-use lib.ListN.{length, get_or, drop, set}
+use lib.ListN.{length, drop, set}
 use lib.Seq.{get_or-drop}
 use borrow.Author.Tests.{eq-eqb, ne_eqb}
+use Rattle.std.specs.Prelude.{Some, None, slice_get}
+use Rattle.std.proofs.lemmas.Option.{none-some, same_Some}
 use Rattle.kinds.specs.declared.Request.{Request}
 use Rattle.kinds.specs.declared.HeadVerdict.{HeadVerdict}
 use Rattle.kinds.specs.declared.HeadVerdict.TheVariants.{Pending, Answer, RunOut}
@@ -48,15 +50,16 @@ pub advanced-line : (own : FarmSheet) (rest : List ℕ) (f : Farm) → (advanced
 advanced-line own rest f = ap (λ (x : Farm). x.line) (advanced-farm own rest f)
 
 module _ (own : FarmSheet) (f : Farm) where
-  pub settle-none : (line : List ℕ) → length line ≡ 0 → settle_line own line f ≡ quietly f
+  pub settle-none : (line : List ℕ) → slice_get line 0 ≡ None → settle_line own line f ≡ quietly f
   unfolding settle_line
   settle-none [] h = refl
-  settle-none (x ∷ l) h = absurd (omega arith)
+  settle-none (x ∷ l) h = absurd (none-some x (sym h))
 
-  pub settle_pending : (line : List ℕ) → (length line ≡ 0 → ⊥) → is_pending (head_verdict own f (get_or line 0 0)) ≡ true → settle_line own line f ≡ quietly f
+  pub settle_pending : (line : List ℕ) (head : ℕ) → slice_get line 0 ≡ Some head → is_pending (head_verdict own f head) ≡ true
+      → settle_line own line f ≡ quietly f
   unfolding settle_line
-  settle_pending [] h e = absurd (h refl)
-  settle_pending (x ∷ l) h e = by (head_verdict own f x) e
+  settle_pending [] head h e = absurd (none-some head h)
+  settle_pending (x ∷ l) head h e = by (head_verdict own f x) (ap (λ (y : ℕ). is_pending (head_verdict own f y)) (same_Some x head h) ∙ e)
     where
       by : (v : HeadVerdict) → is_pending v ≡ true → serve own x l f v (settle_line own l) ≡ quietly f
       by Pending k = refl
@@ -64,14 +67,20 @@ module _ (own : FarmSheet) (f : Farm) where
       by (RunOut check) k = absurd (false≢true k)
 
   -- the verdict is done, the line goes on, and the rest is settled
-  pub settle_acts : (line : List ℕ) → (length line ≡ 0 → ⊥) → is_pending (head_verdict own f (get_or line 0 0)) ≡ false
+  pub settle_acts : (line : List ℕ) (head : ℕ) → slice_get line 0 ≡ Some head → is_pending (head_verdict own f head) ≡ false
       → settle_line own line f
-      ≡ and_then (and_then (acted own (get_or line 0 0) (wanted (row_at f.rows (get_or line 0 0))) (head_verdict own f (get_or line 0 0)) f) (advanced own (drop 1 line)))
+      ≡ and_then (and_then (acted own head (wanted (row_at f.rows head)) (head_verdict own f head) f) (advanced own (drop 1 line)))
       (settle_line own (drop 1 line))
   unfolding settle_line acted
-  settle_acts [] h e = absurd (h refl)
-  settle_acts (x ∷ l) h e = by (head_verdict own f x) e
+  settle_acts [] head h e = absurd (none-some head h)
+  settle_acts (x ∷ l) head h e = by (head_verdict own f x) (ap (λ (y : ℕ). is_pending (head_verdict own f y)) s ∙ e) ∙ ap from s
     where
+      s : x ≡ head
+      s = same_Some x head h
+
+      from : ℕ → Done
+      from y = and_then (and_then (acted own y (wanted (row_at f.rows y)) (head_verdict own f y) f) (advanced own l)) (settle_line own l)
+
       by : (v : HeadVerdict) → is_pending v ≡ false
           → serve own x l f v (settle_line own l)
           ≡ and_then (and_then (acted own x (wanted (row_at f.rows x)) v f) (advanced own l)) (settle_line own l)
@@ -101,54 +110,53 @@ module _ (own : FarmSheet) (seat : ℕ) (q : Request) (f : Farm) where
       by (x ∷ l) h = refl
 
 module _ (own : FarmSheet) (seat : ℕ) (f : Farm) where
-  pub left-none : length f.line ≡ 0 → left own seat f ≡ quietly f
+  pub left-none : slice_get f.line 0 ≡ None → left own seat f ≡ quietly f
   unfolding left
   left-none e = by f.line e
     where
-      by : (line : List ℕ) → length line ≡ 0 → left_by own seat line f ≡ quietly f
+      by : (line : List ℕ) → slice_get line 0 ≡ None → left_by own seat line f ≡ quietly f
       by [] h = refl
-      by (x ∷ l) h = absurd (omega arith)
+      by (x ∷ l) h = absurd (none-some x (sym h))
 
-  pub left-head : (length f.line ≡ 0 → ⊥) → seat ≡ get_or f.line 0 0 → left own seat f ≡ advanced own (drop 1 f.line) f
+  pub left-head : slice_get f.line 0 ≡ Some seat → left own seat f ≡ advanced own (drop 1 f.line) f
   unfolding left
-  left-head e s = by f.line e s
+  left-head e = by f.line e
     where
-      by : (line : List ℕ) → (length line ≡ 0 → ⊥) → seat ≡ get_or line 0 0 → left_by own seat line f ≡ advanced own (drop 1 line) f
-      by [] h k = absurd (h refl)
-      by (x ∷ l) h k = rw (eq-eqb seat x k)
+      by : (line : List ℕ) → slice_get line 0 ≡ Some seat → left_by own seat line f ≡ advanced own (drop 1 line) f
+      by [] h = absurd (none-some seat h)
+      by (x ∷ l) h = rw (eq-eqb seat x (sym (same_Some x seat h)))
 
-  pub left_behind : (length f.line ≡ 0 → ⊥) → (seat ≡ get_or f.line 0 0 → ⊥)
+  pub left_behind : (head : ℕ) → slice_get f.line 0 ≡ Some head → (seat ≡ head → ⊥)
       → left own seat f ≡ quietly (with_line f (without seat f.line))
   unfolding left
-  left_behind e s = by f.line e s
+  left_behind head e s = by f.line e
     where
-      by : (line : List ℕ) → (length line ≡ 0 → ⊥) → (seat ≡ get_or line 0 0 → ⊥)
-          → left_by own seat line f ≡ quietly (with_line f (without seat line))
-      by [] h k = absurd (h refl)
-      by (x ∷ l) h k = rw (ne_eqb seat x k)
+      by : (line : List ℕ) → slice_get line 0 ≡ Some head → left_by own seat line f ≡ quietly (with_line f (without seat line))
+      by [] h = absurd (none-some head h)
+      by (x ∷ l) h = rw (ne_eqb seat x (λ z. s (z ∙ same_Some x head h)))
 
 -- ---- marking
 
 module _ (own : FarmSheet) (seat : ℕ) (f : Farm) where
-  pub asked_none : length f.line ≡ 0 → is_asked own f seat ≡ false
+  pub asked_none : slice_get f.line 0 ≡ None → is_asked own f seat ≡ false
   unfolding is_asked
   asked_none e = by f.line e
     where
-      by : (line : List ℕ) → length line ≡ 0 → asked_in own f line seat ≡ false
+      by : (line : List ℕ) → slice_get line 0 ≡ None → asked_in own f line seat ≡ false
       by [] h = refl
-      by (x ∷ l) h = absurd (omega arith)
+      by (x ∷ l) h = absurd (none-some x (sym h))
 
-  pub asked_head : (length f.line ≡ 0 → ⊥)
-      → is_asked own f seat
-      ≡ asked_by (socket_rules own f.rows (wanted (row_at f.rows (get_or f.line 0 0)))) seat (row_at f.rows seat)
+  pub asked_head : (head : ℕ) → slice_get f.line 0 ≡ Some head
+      → is_asked own f seat ≡ asked_by (socket_rules own f.rows (wanted (row_at f.rows head))) seat (row_at f.rows seat)
   unfolding is_asked
-  asked_head e = by f.line e
+  asked_head head e = by f.line e
     where
-      by : (line : List ℕ) → (length line ≡ 0 → ⊥)
-          → asked_in own f line seat
-          ≡ asked_by (socket_rules own f.rows (wanted (row_at f.rows (get_or line 0 0)))) seat (row_at f.rows seat)
-      by [] h = absurd (h refl)
-      by (x ∷ l) h = refl
+      from : ℕ → Bool
+      from y = asked_by (socket_rules own f.rows (wanted (row_at f.rows y))) seat (row_at f.rows seat)
+
+      by : (line : List ℕ) → slice_get line 0 ≡ Some head → asked_in own f line seat ≡ from head
+      by [] h = absurd (none-some head h)
+      by (x ∷ l) h = ap from (same_Some x head h)
 
   module _ (address : ℕ) where
     pub marked-stranger : active_as address (row_at f.rows seat) ≡ false → marked own seat address f ≡ f

@@ -30,11 +30,9 @@ pub fn leave_line(b: &mut [u8], p: &mut Plan, site: Site, seat: usize)
     requires { RowsFit site × Whole b.old }
     ensures { Did p.old b.new p.new (left (site_sheet site) seat (farm_of b.old)) }
 {
-    let n = table_line::waiting(b);
-    if n == 0 {
+    let Some(head) = table_line::head(b) else {
         return;
-    }
-    let head = table_line::seat_at(b, 0);
+    };
     if seat == head {
         alive::advance(b, p, site);
         return;
@@ -47,11 +45,9 @@ pub fn is_asked(b: &[u8], site: Site, seat: usize) -> bool
     requires { length b.now ≡ block_size }
     ensures { result ≡ is_asked (site_sheet site) (farm_of b.now) seat }
 {
-    let n = table_line::waiting(b);
-    if n == 0 {
+    let Some(head) = table_line::head(b) else {
         return false;
-    }
-    let head = table_line::seat_at(b, 0);
+    };
     let d = decide::rules_for(b, site, head);
     match d {
         Decision::Now(_) => false,

@@ -34,10 +34,9 @@ fn head_keeps(b: &[u8], site: Site) -> bool
     requires { length b.now ≡ block_size }
     ensures { result ≡ head_keeps (site_sheet site) (farm_of b.now) (farm_of b.now).line }
 {
-    if table_line::waiting(b) == 0 {
+    let Some(head) = table_line::head(b) else {
         return table::clock::clock_at(b).ticks == 0;
-    }
-    let head = table_line::seat_at(b, 0);
+    };
     decide::is_pending(decide::head_verdict(b, site, head))
 }
 

@@ -1,7 +1,7 @@
 // "a line of waiting rows": how many, then their seats, the head first; the places past the last are 0.
 #![tactic(auto)]
 
-ghost use Rattle.std.specs.Prelude.{◌≡◌, [], ◌∷◌, ◌++◌, ◌<◌, length, get_or, drop};
+ghost use Rattle.std.specs.Prelude.{◌≡◌, [], ◌∷◌, ◌++◌, ◌<◌, length, get_or, drop, slice_get};
 ghost use Rattle.octets.specs.Put.{put_at};
 ghost use Rattle.octets.specs.Parts.{part};
 ghost use Rattle.model.specs.Farm.{with_line};
@@ -28,6 +28,14 @@ pub fn seat_at(b: &[u8], k: usize) -> usize
         return octets::wide(b[FIRST_SEAT + k]);
     }
     0
+}
+
+// The head of the line.
+pub fn head(b: &[u8]) -> Option<usize>
+    requires { length b.now ≡ block_size }
+    ensures { result ≡ slice_get (farm_of b.now).line 0 }
+{
+    (waiting(b) > 0).then(|| seat_at(b, 0))
 }
 
 fn seats_of(b: &[u8]) -> [u8; SEATS]
