@@ -60,29 +60,23 @@ module _ {s t : List ℕ} {f : ℕ} (r : Ready s t f) {seat : ℕ} (mine : seat 
 
 -- ---- the room is lent
 
--- the room of the row, as a range lends it
-abbrev pub lent_room : List ℕ → ℕ → List ℕ
-lent_room m row = take (row * room_size + room_size - row * room_size) (drop (row * room_size) m)
+-- where the room of a row begins and ends
+abbrev pub RoomEnds : ℕ → ℕ → ℕ → Type 0
+RoomEnds row a e = (a ≡ row * room_size) × (e ≡ row * room_size + room_size)
 
--- the buffer, once r is given back
-abbrev pub room_back : List ℕ → ℕ → List ℕ → List ℕ
-room_back m row r = take (row * room_size) m ++ (r ++ drop (row * room_size + room_size - row * room_size) (drop (row * room_size) m))
-
-lent-room : (m : List ℕ) (row : ℕ) → lent_room m row ≡ part m (row * room_size) room_size
-lent-room m row = part-between m (row * room_size) (row * room_size + room_size) room_size refl
-
-pub lent_full : (m : List ℕ) (row : ℕ) → row < most_rows → length m ≡ assembling_size → length (lent_room m row) ≡ room_size
+pub lent_full : (m : List ℕ) {row a e : ℕ} → RoomEnds row a e → row < most_rows → length m ≡ assembling_size → length (lent_block m a e) ≡ room_size
 unfolding assembling_size
-lent_full m row few wide = ap length (lent-room m row) ∙ length_part m (row * room_size) room_size (omega (arith, few, wide))
+lent_full m {row} {a} {e} ends few wide =
+    ap length (part-between m a e room_size (omega (arith, ends.0, ends.1))) ∙ length_part m a room_size (omega (arith, ends.0, few, wide))
 
 room_back_lem : (s m r : List ℕ) (f seat : ℕ) → room_at s f seat + room_size ≤ length m → length r ≡ room_size
-    → let left : List ℕ = room_back m (first_row s f + seat) r in (room s f seat left ≡ r) × OnlyRoom s f seat m left
+    → let left : List ℕ = given_back m (room_at s f seat) (room_at s f seat + room_size) r in (room s f seat left ≡ r) × OnlyRoom s f seat m left
 room_back_lem s m r f seat fits full =
     let a : ℕ = room_at s f seat in
     let n : room_at s f seat + room_size - room_at s f seat ≡ room_size = omega arith in
-    let p : room_back m (first_row s f + seat) r ≡ put_at m (room_at s f seat) r =
+    let p : given_back m (room_at s f seat) (room_at s f seat + room_size) r ≡ put_at m (room_at s f seat) r =
     ap (λ (x : ℕ). take a m ++ (r ++ drop x (drop a m))) n ∙ mid_put m r a room_size full in
-    let o : room s f seat (room_back m (first_row s f + seat) r) ≡ r =
+    let o : room s f seat (given_back m (room_at s f seat) (room_at s f seat + room_size) r) ≡ r =
     ap (λ (x : List ℕ). room s f seat x) p ∙ ap (part (put_at m a r) a) (sym full) ∙ part_same m a r (omega (arith, fits, full)) in
     (o, record { put = p ∙ ap (put_at m a) (sym o) })
 
@@ -99,9 +93,15 @@ module _ {s m left : List ℕ} {f seat : ℕ} (only : OnlyRoom s f seat m left) 
 
 -- a function was lent the block and the room, and left b and r there
 module _ (s t m : List ℕ) {f : ℕ} (ready : Ready s t f) {seat : ℕ} (mine : seat < rows_owned s f) (wide : length m ≡ assembling_size) (input : List ℕ) (p : List Item) (b : List ℕ) (plan : List Item) (r : List ℕ) (h : Heard) (full : length r ≡ room_size) (a e : ℕ) (ends : Ends f a e) where
-  heard-first : BytesDid h (farm_sheet s f) seat (taken_by seat (lent_room m (first_row s f + seat)) input (farm_of (lent_block t a e))) (farm_of (lent_block t a e)) p b plan r
-      → HeardAt s f seat input p t m plan (given_back t a e b) (room_back m (first_row s f + seat) r) h
+  -- the room was lent from x to y
+  abbrev Told : ℕ → ℕ → Type 0
+  Told x y =
+      BytesDid h (farm_sheet s f) seat (taken_by seat (lent_block m x y) input (farm_of (lent_block t a e))) (farm_of (lent_block t a e)) p b plan r
+      → HeardAt s f seat input p t m plan (given_back t a e b) (given_back m x y r) h
+
+  heard-first : Told (room_at s f seat) (room_at s f seat + room_size)
   heard-first d =
+      let mine_lent : List ℕ = lent_block m (room_at s f seat) (room_at s f seat + room_size) in
       let block_back = back_is t b f a e ends ready.long (ready_below ready) d.did.whole.long in
       let back = room_back_lem s m r f seat (room_within ready mine m wide) full in
       record {
@@ -110,59 +110,51 @@ module _ (s t m : List ℕ) {f : ℕ} (ready : Ready s t f) {seat : ℕ} (mine :
         did =
             subst (λ (x : List ℕ). BytesDid h (farm_sheet s f) seat (heard_taken s f seat input t m) (farm_of (block t f)) p (block (given_back t a e b) f) plan x) (sym back.0)
             (subst (λ (x : List ℕ). BytesDid h (farm_sheet s f) seat (heard_taken s f seat input t m) (farm_of (block t f)) p x plan r) (sym block_back.0)
-            (subst (λ (x : List ℕ). BytesDid h (farm_sheet s f) seat (taken_by seat x input (farm_of (block t f))) (farm_of (block t f)) p b plan r) (lent-room m (first_row s f + seat))
-            (subst (λ (x : List ℕ). BytesDid h (farm_sheet s f) seat (taken_by seat (lent_room m (first_row s f + seat)) input (farm_of x)) (farm_of x) p b plan r) (lent_is t f a e ends) d)));
+            (subst (λ (x : List ℕ). BytesDid h (farm_sheet s f) seat (taken_by seat x input (farm_of (block t f))) (farm_of (block t f)) p b plan r) (part-between m (room_at s f seat) (room_at s f seat + room_size) room_size refl)
+            (subst (λ (x : List ℕ). BytesDid h (farm_sheet s f) seat (taken_by seat mine_lent input (farm_of x)) (farm_of x) p b plan r) (lent_is t f a e ends) d)));
       }
 
-  pub heard-lent : {first : ℕ} → first ≡ first_row s f
-      → BytesDid h (farm_sheet s f) seat (taken_by seat (lent_room m (first + seat)) input (farm_of (lent_block t a e))) (farm_of (lent_block t a e)) p b plan r
-      → HeardAt s f seat input p t m plan (given_back t a e b) (room_back m (first + seat) r) h
-  heard-lent k =
-      subst
-      (λ (x : ℕ). BytesDid h (farm_sheet s f) seat (taken_by seat (lent_room m (x + seat)) input (farm_of (lent_block t a e))) (farm_of (lent_block t a e)) p b plan r
-      → HeardAt s f seat input p t m plan (given_back t a e b) (room_back m (x + seat) r) h)
-      (sym k) heard-first
+  pub heard-lent : {first x y : ℕ} → first ≡ first_row s f → RoomEnds (first + seat) x y → Told x y
+  heard-lent {first} {x} {y} k room_ends =
+      let at : (first + seat) * room_size ≡ room_at s f seat = ap (λ (n : ℕ). (n + seat) * room_size) k in
+      subst (λ (u : ℕ). Told u y) (sym (room_ends.0 ∙ at))
+      (subst (λ (v : ℕ). Told (room_at s f seat) v) (sym (room_ends.1 ∙ ap (λ (n : ℕ). n + room_size) at)) heard-first)
 
 -- ---- the output sheet
-
--- the payload, as a range lends it
-abbrev pub lent_payload : List ℕ → ℕ → ℕ → List ℕ
-lent_payload left row n = take (row * room_size + n - row * room_size) (drop (row * room_size) left)
 
 module _ {s t m input after left : List ℕ} {p plan : List Item} {f seat : ℕ} {h : Heard} (x : HeardAt s f seat input p t m plan after left h) where
   abbrev taken : Taken
   taken = heard_taken s f seat input t m
 
-  first-payload : lent_payload left (first_row s f + seat) h.long ≡ payload_by (heard_taken s f seat input t m).event (heard_taken s f seat input t m).stream.room
+  first-payload : lent_block left (room_at s f seat) (room_at s f seat + h.long) ≡ payload_by (heard_taken s f seat input t m).event (heard_taken s f seat input t m).stream.room
   first-payload =
       part-between left (room_at s f seat) (room_at s f seat + h.long) h.long refl
       ∙ sym (take-take h.long room_size (drop (room_at s f seat) left) x.did.short)
       ∙ x.did.long
 
-  pub payload-is : {first : ℕ} → first ≡ first_row s f
-      → lent_payload left (first + seat) h.long ≡ payload_by (heard_taken s f seat input t m).event (heard_taken s f seat input t m).stream.room
-  payload-is e = ap (λ (k : ℕ). lent_payload left (k + seat) h.long) e ∙ first-payload
+  pub payload-is : {a : ℕ} → a ≡ room_at s f seat
+      → lent_block left a (a + h.long) ≡ payload_by (heard_taken s f seat input t m).event (heard_taken s f seat input t m).stream.room
+  payload-is e = ap (λ (k : ℕ). lent_block left k (k + h.long)) e ∙ first-payload
 
-  pub heard-small : Ready s t f → (first : ℕ) → Small (heard_done s f seat input t m).items (lent_payload left (first + seat) h.long)
-  heard-small ready first =
-      let a : ℕ = (first + seat) * room_size in
-      let n : (first + seat) * room_size + h.long - (first + seat) * room_size ≡ h.long = omega arith in
+  pub heard-small : Ready s t f → (a : ℕ) → Small (heard_done s f seat input t m).items (lent_block left a (a + h.long))
+  heard-small ready a =
+      let n : a + h.long - a ≡ h.long = omega arith in
       record {
         few = bytes-room (farm-ok s f ready.sheet ready.has) ready.good seat taken;
         one_long = bytes_one (farm_sheet s f) seat taken (farm_of (block t f));
-        short = omega (arith, n, x.did.short, length-take ((first + seat) * room_size + h.long - (first + seat) * room_size) (drop a left));
+        short = omega (arith, n, x.did.short, length-take (a + h.long - a) (drop a left));
       }
 
   -- from an empty plan on, it says just the call's entries
   heard-items : p ≡ [] → Ready s t f → plan ≡ (heard_done s f seat input t m).items
   heard-items none ready = said-items none x.did.did (heard-small ready 0).few
 
-  pub heard-room : p ≡ [] → Ready s t f → (first n : ℕ) → least_output ≤ n → Room plan (lent_payload left (first + seat) h.long) n
-  heard-room none ready first n least =
-      small-room plan (lent_payload left (first + seat) h.long) n (heard_done s f seat input t m).items (heard-items none ready) (heard-small ready first) least
+  pub heard-room : p ≡ [] → Ready s t f → (a n : ℕ) → least_output ≤ n → Room plan (lent_block left a (a + h.long)) n
+  heard-room none ready a n least =
+      small-room plan (lent_block left a (a + h.long)) n (heard_done s f seat input t m).items (heard-items none ready) (heard-small ready a) least
 
-  pub heard_out : {out output : List ℕ} {a : Answer} {first : ℕ} → p ≡ [] → Ready s t f → first ≡ first_row s f → a ≡ done no_row h.count a.length
-      → Wrote (sheet_of (entries_of (lent_payload left (first + seat) h.long) plan)) out output a.length
+  pub heard_out : {out output : List ℕ} {a : Answer} {at : ℕ} → p ≡ [] → Ready s t f → at ≡ room_at s f seat → a ≡ done no_row h.count a.length
+      → Wrote (sheet_of (entries_of (lent_block left at (at + h.long)) plan)) out output a.length
       → HeardOut s f seat input t out m after output left a
   heard_out {out} {output} {a} none ready e k w =
       record {
