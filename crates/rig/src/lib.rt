@@ -67,7 +67,10 @@ fn make(
 impl Rig {
     // "Before the first records: the sheet is empty [..], the output buffer has 4,096 zero bytes, the assembling buffer the document's
     // exact length".
-    pub fn fresh(style: Style) -> Rig {
+    pub fn fresh(style: Style) -> Rig
+        ensures lent { (result.lent.sheet ≡ 0) × (result.lent.output ≡ 4096) × (result.lent.assembling ≡ 32768) }
+        ensures told { (result.calls ≡ 0) × (result.text.style ≡ style) × (result.text.used ≡ 0) }
+    {
         Rig {
             sheet: [0; SPACE],
             table: [0; TABLE],

@@ -12,13 +12,16 @@ impl Text {
     // Its line: "the answer's number, its row, the bytes taken, all decimal, then the output sheet".
     fn say_answer<R: Print + Eprint>(&mut self, rt: &R, a: Answer, sheet: &[u8])
         requires { length sheet.now ≤ space_size }
+        ensures { self.new.style ≡ self.old.style }
     {
         self.make_room(rt);
         self.used = lines::put_answer(&mut self.bytes, self.used, a.number, a.row, a.taken, sheet);
     }
 
     // "under it one indented line per entry"
-    fn tell_entries<R: Print + Eprint>(&mut self, rt: &R, sheet: &[u8]) {
+    fn tell_entries<R: Print + Eprint>(&mut self, rt: &R, sheet: &[u8])
+        ensures { self.new.style ≡ self.old.style }
+    {
         for i in 0..entry::count(sheet) {
             self.make_room(rt);
             self.used = entry::put_line(&mut self.bytes, self.used, sheet, i);
@@ -34,7 +37,9 @@ impl Text {
         given: usize,
         a: Answer,
         sheet: &[u8],
-    ) {
+    )
+        ensures { self.new.style ≡ self.old.style }
+    {
         self.make_room(rt);
         self.used = heading::put_line(
             &mut self.bytes,
@@ -60,6 +65,7 @@ impl Text {
         out: &[u8],
     )
         requires { (a.length ≤ length out.now) × (length out.now ≤ space_size) }
+        ensures { self.new.style ≡ self.old.style }
     {
         let sheet = &out[..a.length];
         match self.style {

@@ -1,5 +1,5 @@
 // The text that lines are gathered in. It is written when it is full: one write for thousands of lines.
-ghost use Rattle.std.specs.Prelude.{◌≡◌, ◌+◌, ◌≤◌, length};
+ghost use Rattle.std.specs.Prelude.{◌≡◌, ◌+◌, ◌≤◌, ◌⊎◌, length};
 ghost use Rattle.say.specs.Spaces.{text_size, line_size};
 
 use crate::fault::fail;
@@ -47,9 +47,11 @@ impl Text {
         }
     }
 
-    // There is room for the next line after what is used.
+    // There is room for the next line after what is used. All else stays: what is gathered is either still there or written.
     pub fn make_room<R: Print + Eprint>(&mut self, rt: &R)
-        ensures { self.new.used + line_size ≤ text_size }
+        ensures room { self.new.used + line_size ≤ text_size }
+        ensures kept { (self.new.bytes ≡ self.old.bytes) × (self.new.style ≡ self.old.style) }
+        ensures used { (self.new.used ≡ self.old.used) ⊎ (self.new.used ≡ 0) }
     {
         if TEXT - self.used < LINE {
             flush(rt, &self.bytes, self.used);

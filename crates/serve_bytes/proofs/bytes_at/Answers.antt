@@ -19,7 +19,7 @@ use borrow.Author.Rules.{rules}
 use Rattle.serve_bytes.proofs.bytes_at.Goals as goal
 
 pub room_of-requires : goal.room_of-requires
-room_of-requires c = row_few c.requires.0 c.requires.2 (first-is c.requires.1 refl)
+room_of-requires c = omega (arith, row_few c.requires.0 c.requires.2 (first-is c.requires.1 refl))
 
 pub slice_bounds-bytes-end-2 : goal.slice_bounds-bytes-end-2
 unfolding assembling_size

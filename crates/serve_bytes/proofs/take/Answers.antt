@@ -10,7 +10,7 @@ use Rattle.serve_bytes.proofs.HeardLaws.{first-is, row_few, only-long, room_with
 use Rattle.serve_bytes.proofs.take.Goals as goal
 
 pub room_of-a-requires : goal.room_of-a-requires
-room_of-a-requires c = row_few c.requires.0 c.requires.1 (first-is c.site_of-site.ensures refl)
+room_of-a-requires c = omega (arith, row_few c.requires.0 c.requires.1 (first-is c.site_of-site.ensures refl))
 
 pub overflow_add-e : goal.overflow_add-e
 overflow_add-e c = omega (arith, row_few c.requires.0 c.requires.1 (first-is c.site_of-site.ensures refl), c.room_of-a.ensures.0, c.bytes_at-heard.ensures.did.short)
