@@ -17,4 +17,6 @@ of_block : (s t : List ℕ) (f from to : ℕ) (p q : List Item) (user : List ℕ
 of_block s t f from to p q user n a e m k = subst (λ (b : List ℕ). Messaged s f (farm_of b) p q from to user n) (lent_is t f a e k) m
 
 pub returns : goal.returns
-returns c = of_block _ _ _ _ _ _ _ _ _ _ _ c.message.ensures (search rules)
+returns c =
+    let x = c.args in
+    of_block x.s.now x.t.now x.f.0 x.from x.to x.p.now c.message.new.p x.user.now _ _ _ c.message.ensures (search rules)
