@@ -28,7 +28,7 @@ slice_bounds-bytes-end-2 c = omega (arith, row_few c.requires.0 c.requires.2 (fi
 pub bytes-requires : goal.bytes-requires
 bytes-requires c = let back : block c.args.t.now c.args.f.0 ≡ lent_block c.args.t.now c.block_of.result.start c.block_of.result.end = sym (lent_is _ _ _ _ c.block_of.ensures) in (
   seat_few c.requires.0 c.requires.2,
-  lent_full c.args.m.now c.room_of.ensures (row_few c.requires.0 c.requires.2 (first-is c.requires.1 refl)) c.requires.4,
+  lent_full c.args.m.now c.room_of.ensures (omega (arith, row_few c.requires.0 c.requires.2 (first-is c.requires.1 refl))) c.requires.4,
   c.requires.1,
   subst (λ (b : List ℕ). Good (farm_sheet c.args.s.now c.args.f.0) (farm_of b)) back c.requires.0.good,
   subst (λ (b : List ℕ). is_waiting (row_at (farm_of b).rows c.args.seat) ≡ false) back c.requires.3,
