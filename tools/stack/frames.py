@@ -60,7 +60,8 @@ def functions(archive):
         elif CALL.match(last):
             if last.startswith("call") and "*" in last:
                 raise SystemExit(f"frames.py: {name} calls through a pointer: {last}")
-            inner = re.search(r"<([^>+]+)>", last)
+            # the name of an instance has brackets of its own, as in core::cmp::f::<u8>
+            inner = re.search(r"<([^+]+)>$", last)
             if inner and (inner[1] != name or last.startswith("call")):
                 found[name][1].add(inner[1])
         elif re.search(r", %rsp$", last) and not UP.match(last) and not re.match(r"^(cmp|test)", last):

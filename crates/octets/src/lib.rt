@@ -42,12 +42,15 @@ pub fn read32(s: &[u8], at: usize) -> u32
     join32(s[at], s[at + 1], s[at + 2], s[at + 3])
 }
 
-// All of src into out, from the place at on.
+// All of src into out, from the place at on. It is a loop and no `copy_from_slice`, for which the archive for C would need a memmove from
+// outside: docs/HOST.md promises that it needs memcpy and memset alone.
 pub fn put(out: &mut [u8], at: usize, src: &[u8])
     requires { at + length src.now ≤ length out.old }
     ensures { out.new ≡ put_at out.old at src.now }
 {
-    out[at..at + src.len()].copy_from_slice(src);
+    for j in 0..src.len() {
+        out[at + j] = src[j];
+    }
 }
 
 pub fn write16(out: &mut [u8], at: usize, x: u16)

@@ -3,7 +3,7 @@
 #![tactic(auto)]
 
 ghost use Rattle.std.specs.Prelude.{◌≡◌, ◌+◌, ◌*◌, ◌≤◌, ◌<◌, [], ◌∷◌, length, get_or};
-ghost use Rattle.plan.specs.Plan.{plan_room, item_size, tagged, item_image, reply_from, item_at, no_item, pushed_to};
+ghost use Rattle.plan.specs.Plan.{plan_room, item_size, tagged, item_image, reply_from, item_at, items_of, no_item, pushed_to, Said};
 
 use kinds::{Item, Reply, RowNo};
 use std::marker::Model;
@@ -14,7 +14,7 @@ const ROOM: u8 = 72;
 const SIZE: usize = 8;
 
 // The bytes of a plan; its count is one of them.
-const PLAN: usize = 1 + ROOM as usize * SIZE;
+pub const PLAN: usize = 1 + ROOM as usize * SIZE;
 
 // An item's eight bytes, from its numbers.
 fn image(row: RowNo, version: u8, tag: u8, code: u8, a: u16, b: u16) -> [u8; SIZE]
@@ -105,6 +105,20 @@ impl Plan {
         ensures { result ≡ [] }
     {
         Self { bytes: [0; PLAN] }
+    }
+
+    // The plan that any bytes say, whoever made them: a count past the room says no more than the room, a tag of no reply is a close.
+    pub fn of_bytes(bytes: [u8; PLAN]) -> Self
+        ensures { result ≡ items_of bytes }
+    {
+        Self { bytes }
+    }
+
+    // The bytes, which say these items.
+    pub fn bytes(&self) -> &[u8; PLAN]
+        ensures { Said result.now self.now }
+    {
+        &self.bytes
     }
 
     // The number of items: a count past the room says no more than the room.

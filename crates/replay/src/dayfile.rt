@@ -80,7 +80,7 @@ fn read_on<R: Print + Eprint, F: Read>(
     rig: &mut Rig,
 ) -> io::Result<Option<Ending>> {
     if hand.refill(file)? == 0 {
-        return Ok(Some(hand.ending(rig.calls)));
+        return Ok(Some(hand.ending(rig.run.calls)));
     }
     let (at, why) = play_whole(rt, &hand.bytes[..hand.have], rig);
     hand.drop_front(at);
@@ -92,7 +92,7 @@ fn read_on<R: Print + Eprint, F: Read>(
 
 // "After the last record": the farms' lines and the last line.
 fn finish<R: Print + Eprint>(rt: &R, rig: &mut Rig, e: Ending) {
-    let sheet = &rig.sheet[..rig.lent.sheet];
+    let sheet = &rig.sheet[..rig.run.lent.sheet];
     rig.text.say_farms(rt, sheet, &rig.table);
     rig.text.say_last(rt, e);
 }

@@ -27,15 +27,21 @@ pub struct Lent {
     ghost assembling_within: { assembling ≤ space_size },
 }
 
-// The memory that is lent, how much of it, the number of calls, and the text that they are told in: what is kept from record to record.
+// What is kept from record to record beside the memory and the text: how much is lent, and the number of calls.
+#[derive(Clone, Copy)]
+pub struct Run {
+    pub lent: Lent,
+    pub calls: usize,
+}
+
+// The memory that is lent, what is kept beside it, and the text that the calls are told in.
 #[derive(Drop)]
 pub struct Rig {
     pub sheet: [u8; SPACE],
     pub table: [u8; TABLE],
     pub output: [u8; SPACE],
     pub assembling: [u8; SPACE],
-    pub lent: Lent,
-    pub calls: usize,
+    pub run: Run,
     pub text: Text,
 }
 
@@ -68,27 +74,29 @@ impl Rig {
     // "Before the first records: the sheet is empty [..], the output buffer has 4,096 zero bytes, the assembling buffer the document's
     // exact length".
     pub fn fresh(style: Style) -> Rig
-        ensures lent { (result.lent.sheet ≡ 0) × (result.lent.output ≡ 4096) × (result.lent.assembling ≡ 32768) }
-        ensures told { (result.calls ≡ 0) × (result.text.style ≡ style) × (result.text.used ≡ 0) }
+        ensures lent { (result.run.lent.sheet ≡ 0) × (result.run.lent.output ≡ 4096) × (result.run.lent.assembling ≡ 32768) }
+        ensures told { (result.run.calls ≡ 0) × (result.text.style ≡ style) × (result.text.used ≡ 0) }
     {
         Rig {
             sheet: [0; SPACE],
             table: [0; TABLE],
             output: [0; SPACE],
             assembling: [0; SPACE],
-            lent: Lent {
-                sheet: 0,
-                output: 4096,
-                assembling: 32768,
+            run: Run {
+                lent: Lent {
+                    sheet: 0,
+                    output: 4096,
+                    assembling: 32768,
+                },
+                calls: 0,
             },
-            calls: 0,
             text: Text::new(style),
         }
     }
 
     // A call, and what is written of it.
     fn answer<R: Print + Eprint>(&mut self, rt: &R, call: Call, rest: &[u8]) {
-        let lent = self.lent;
+        let lent = self.run.lent;
         let output = &mut self.output[..];
         let assembling = &mut self.assembling[..];
         let a = make(
@@ -99,24 +107,24 @@ impl Rig {
             &mut output[..lent.output],
             &mut assembling[..lent.assembling],
         );
-        self.calls = self.calls.wrapping_add(1);
+        self.run.calls = self.run.calls.wrapping_add(1);
         let given = rest.len();
         self.text
-            .say_call(rt, self.calls, call, given, a, &self.output);
+            .say_call(rt, self.run.calls, call, given, a, &self.output);
     }
 
     fn lend_sheet(&mut self, rest: &[u8])
         requires { length rest.now ≤ space_size }
     {
         octets::put(&mut self.sheet, 0, rest);
-        self.lent.sheet = rest.len();
+        self.run.lent.sheet = rest.len();
     }
 
     fn lend_rooms(&mut self, output: u32, assembling: u32)
         requires { (output ≤ space_size) × (assembling ≤ space_size) }
     {
-        self.lent.output = output as usize;
-        self.lent.assembling = assembling as usize;
+        self.run.lent.output = output as usize;
+        self.run.lent.assembling = assembling as usize;
     }
 
     // A record, it; rest are the bytes that it ends in.
