@@ -7,7 +7,7 @@ use day::{places, records};
 use lines::Ending;
 use rig::{Rig, SPACE};
 use say::fault::fail;
-use say::text::Style;
+use say::text::{Style, Text};
 use std::io;
 use std::io::Read;
 
@@ -57,14 +57,19 @@ impl Hand {
 }
 
 // Carries out each whole record from the place on: where the next one is, and why that one is not read.
-fn play_whole<R: Print + Eprint>(rt: &R, s: &[u8], rig: &mut Rig) -> (usize, Unread)
+fn play_whole<R: Print + Eprint>(
+    rt: &R,
+    s: &[u8],
+    rig: &mut Rig,
+    text: &mut Text,
+) -> (usize, Unread)
     ensures { result.0 ≤ length s.now }
 {
     let mut at = 0;
     loop {
         match records::next_at(s, at) {
             Ok(found) => {
-                rig.carry_out(rt, found.record, &s[found.rest..found.next]);
+                rig.carry_out(rt, text, found.record, &s[found.rest..found.next]);
                 at = found.next;
             }
             Err(why) => return (at, why),
@@ -78,11 +83,12 @@ fn read_on<R: Print + Eprint, F: Read>(
     file: &mut F,
     hand: &mut Hand,
     rig: &mut Rig,
+    text: &mut Text,
 ) -> io::Result<Option<Ending>> {
     if hand.refill(file)? == 0 {
         return Ok(Some(hand.ending(rig.run.calls)));
     }
-    let (at, why) = play_whole(rt, &hand.bytes[..hand.have], rig);
+    let (at, why) = play_whole(rt, &hand.bytes[..hand.have], rig, text);
     hand.drop_front(at);
     match why {
         Unread::Cut => Ok(None),
@@ -91,10 +97,10 @@ fn read_on<R: Print + Eprint, F: Read>(
 }
 
 // "After the last record": the farms' lines and the last line.
-fn finish<R: Print + Eprint>(rt: &R, rig: &mut Rig, e: Ending) {
+fn finish<R: Print + Eprint>(rt: &R, rig: &Rig, text: &mut Text, e: Ending) {
     let sheet = &rig.sheet[..rig.run.lent.sheet];
-    rig.text.say_farms(rt, sheet, &rig.table);
-    rig.text.say_last(rt, e);
+    text.say_farms(rt, sheet, &rig.table);
+    text.say_last(rt, e);
 }
 
 // The file can't be read: it is named. Whatever could be opened has a text for its name.
@@ -105,11 +111,12 @@ fn unread<R: Eprint>(rt: &R, path: &[u8], error: io::Error) {
 // A proved loop has to end, and nothing says that a file does: the turns are counted.
 pub fn play<R: Print + Eprint, F: Read>(rt: &R, file: &mut F, path: &[u8], style: Style) {
     let mut hand = Hand::empty();
-    let mut rig = Rig::fresh(style);
+    let mut rig = Rig::fresh();
+    let mut text = Text::new(style);
     for _ in 0..u64::MAX {
-        match read_on(rt, file, &mut hand, &mut rig) {
+        match read_on(rt, file, &mut hand, &mut rig, &mut text) {
             Ok(None) => {}
-            Ok(Some(e)) => return finish(rt, &mut rig, e),
+            Ok(Some(e)) => return finish(rt, &rig, &mut text, e),
             Err(e) => return unread(rt, path, e),
         }
     }

@@ -10,7 +10,7 @@ ghost use Rattle.say.specs.Spaces.{space_size};
 use day::places;
 use day::records::{Call, Record};
 use lent::Answer;
-use say::text::{Style, Text};
+use say::text::Text;
 use table::TABLE;
 
 // "each at most 65,536"
@@ -27,14 +27,15 @@ pub struct Lent {
     ghost assembling_within: { assembling ≤ space_size },
 }
 
-// What is kept from record to record beside the memory and the text: how much is lent, and the number of calls.
+// What is kept from record to record beside the memory: how much of it is lent, and the number of calls.
 #[derive(Clone, Copy)]
 pub struct Run {
     pub lent: Lent,
     pub calls: usize,
 }
 
-// The memory that is lent, what is kept beside it, and the text that the calls are told in.
+// The memory that is lent, and what is kept beside it. The text that the calls are told in is apart: were it a field too, the compiler could not
+// tell the lines that are written from the sheet that is read, and a long sheet's line took over four times as long.
 #[derive(Drop)]
 pub struct Rig {
     pub sheet: [u8; SPACE],
@@ -42,7 +43,6 @@ pub struct Rig {
     pub output: [u8; SPACE],
     pub assembling: [u8; SPACE],
     pub run: Run,
-    pub text: Text,
 }
 
 // The call, with all that is lent to it: the memory in parts, as `Served` speaks of it.
@@ -73,9 +73,9 @@ fn make(
 impl Rig {
     // "Before the first records: the sheet is empty [..], the output buffer has 4,096 zero bytes, the assembling buffer the document's
     // exact length".
-    pub fn fresh(style: Style) -> Rig
+    pub fn fresh() -> Rig
         ensures lent { (result.run.lent.sheet ≡ 0) × (result.run.lent.output ≡ 4096) × (result.run.lent.assembling ≡ 32768) }
-        ensures told { (result.run.calls ≡ 0) × (result.text.style ≡ style) × (result.text.used ≡ 0) }
+        ensures told { result.run.calls ≡ 0 }
     {
         Rig {
             sheet: [0; SPACE],
@@ -90,12 +90,11 @@ impl Rig {
                 },
                 calls: 0,
             },
-            text: Text::new(style),
         }
     }
 
     // A call, and what is written of it.
-    fn answer<R: Print + Eprint>(&mut self, rt: &R, call: Call, rest: &[u8]) {
+    fn answer<R: Print + Eprint>(&mut self, rt: &R, text: &mut Text, call: Call, rest: &[u8]) {
         let lent = self.run.lent;
         let output = &mut self.output[..];
         let assembling = &mut self.assembling[..];
@@ -109,8 +108,7 @@ impl Rig {
         );
         self.run.calls = self.run.calls.wrapping_add(1);
         let given = rest.len();
-        self.text
-            .say_call(rt, self.run.calls, call, given, a, &self.output);
+        text.say_call(rt, self.run.calls, call, given, a, &self.output);
     }
 
     fn lend_sheet(&mut self, rest: &[u8])
@@ -128,11 +126,11 @@ impl Rig {
     }
 
     // A record, it; rest are the bytes that it ends in.
-    pub fn carry_out<R: Print + Eprint>(&mut self, rt: &R, it: Record, rest: &[u8])
+    pub fn carry_out<R: Print + Eprint>(&mut self, rt: &R, text: &mut Text, it: Record, rest: &[u8])
         requires { RoomsFit it × (length rest.now ≤ space_size) }
     {
         match it {
-            Record::Made(call) => self.answer(rt, call, rest),
+            Record::Made(call) => self.answer(rt, text, call, rest),
             Record::Sheet => self.lend_sheet(rest),
             Record::Rooms(output, assembling) => self.lend_rooms(output, assembling),
             Record::Damage(at) => places::damage(&mut self.table, at as usize, rest),
