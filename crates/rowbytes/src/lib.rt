@@ -97,9 +97,7 @@ fn read_head(s: &[u8]) -> [u8; 8]
     requires { length s.now ≡ head_size }
     ensures { result ≡ s.now }
 {
-    let mut head = [0; 8];
-    head.copy_from_slice(s);
-    head
+    *s.first_chunk().unwrap_or(&[0; 8])
 }
 
 #[tactic(auto, unfolding(crate::specs::RowBytes::row_from))]
