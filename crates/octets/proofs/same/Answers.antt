@@ -1,5 +1,5 @@
--- `same` meets its contract: std's comparison of slices asks the same of each pair. `take-length` and `unary_clauses` serve slices from a
--- place on, as the must-fail edit has them: with the place 0 it is proved, so that it is refused for its mistake and not for its form.
+-- `same` meets its contract: std's comparison of slices asks the same of each pair. `a == b` has no need of `take-length` and `unary_clauses`:
+-- by them must-fail/first_byte_not_compared is proved with `* 0` for its `* 1`, so that it is refused for its mistake and not for its form.
 -- Assumes nothing.
 use Rattle.std.proofs.Math.Numerals.{unary_clauses}
 use Rattle.std.proofs.Math.Seq.{take-length}
